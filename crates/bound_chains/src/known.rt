@@ -4,6 +4,7 @@ ghost use Rattle.std.specs.Prelude.{◌≡◌, ◌≤◌, IsTrue, IsSome, IfSome
 ghost use Rattle.rail_base.specs.Routes.{IsRoute, route_at, share};
 ghost use Rattle.rail_base.specs.Stations.{IsTrain};
 ghost use Rattle.rail_spec.specs.Plans.{contend};
+ghost use Rattle.bound_spec.specs.Validity.{contend_over_own};
 
 use interlocking::Interlocking;
 use leg_targets::Visit;
@@ -77,6 +78,17 @@ pub fn contend(interlocking: &Interlocking, one: Command, other: Command) -> boo
     ensures { result ≡ contend interlocking.now.routes one other }
 {
     one.train != other.train && share(interlocking, one.route, other.route)
+}
+
+/// Whether two commands contend over an own section of the first: a later second one waits until the tail of the
+/// first's train has left it.
+pub fn contend_over_own(interlocking: &Interlocking, first: Command, second: Command) -> bool
+    ensures { result
+        ≡ contend_over_own interlocking.now.design.station interlocking.now.routes first second }
+{
+    is_route(interlocking, first.route)
+        && is_route(interlocking, second.route)
+        && bound_design::contend_over_own(interlocking, first, second)
 }
 
 /// Where on a walk a train has released what a route waits for, in mm from the walk's start.

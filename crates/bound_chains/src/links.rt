@@ -1,7 +1,7 @@
 //! Which commands of a plan wait for which, and how long that takes.
 
 use crate::goals::Goal;
-use crate::known::{contend, count_trains};
+use crate::known::{contend_over_own, count_trains};
 use crate::paths::{Given, Span};
 use crate::search::ChainSearch;
 use leg_targets::Visit;
@@ -76,12 +76,15 @@ impl ChainSearch<'_> {
         None
     }
 
-    /// The last command of a train that contends with another and stands before it.
+    /// The last command of a train that stands before another and contends with it over a section that the train goes
+    /// over.
     fn last_before(&self, train: TrainNo, next: &Given) -> Option<usize> {
         let (first, end) = self.paths.span(train);
         for index in (first..end).rev() {
             let given = self.paths.given.get(index)?;
-            if given.step < next.step && contend(self.interlocking, given.command, next.command) {
+            if given.step < next.step
+                && contend_over_own(self.interlocking, given.command, next.command)
+            {
                 return Some(index);
             }
         }

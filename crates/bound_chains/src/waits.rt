@@ -10,7 +10,8 @@ use crate::search::ChainSearch;
 use leg_targets::Visit;
 use rail_base::history::TrainHistory;
 use rail_base::plan::Command;
-use rail_base::station::TrainNo;
+use rail_base::route::{Route, RouteNo};
+use rail_base::station::{SectionNo, TrainNo};
 use std::alloc::AllocError;
 
 /// A command that waits for one of another train, by their places among all.
@@ -89,13 +90,9 @@ impl ChainSearch<'_> {
     fn clear_tick(&self, own: Command, other: Command) -> Option<u64> {
         let route = route(self.interlocking, own.route)?;
         let history = self.history_of(other.train)?;
-        let mut last = 1;
-        for release in history.releases.as_slice() {
-            if release.0 == other.route && route.has_section(release.1) {
-                last = last.max(release.2?);
-            }
-        }
-        Some(last)
+        let own = last_release(history.releases.as_slice(), other.route, route)?;
+        let held = last_release(history.holds.as_slice(), other.route, route)?;
+        Some(own.max(held))
     }
 
     /// Adds what a command waits for.
@@ -115,4 +112,19 @@ impl ChainSearch<'_> {
         }
         Ok(())
     }
+}
+
+/// The last tick at which a route releases one of its sections that another has, or 1; none where one has not come.
+fn last_release(
+    releases: &[(RouteNo, SectionNo, Option<u64>)],
+    number: RouteNo,
+    other: &Route,
+) -> Option<u64> {
+    let mut last = 1;
+    for release in releases {
+        if release.0 == number && other.has_section(release.1) {
+            last = last.max(release.2?);
+        }
+    }
+    Some(last)
 }

@@ -28,7 +28,7 @@ use Rattle.bound_spec.specs.declared.Leg.{Leg}
 use Rattle.bound_spec.specs.declared.Bound.{Bound}
 use Rattle.bound_spec.specs.declared.Origin.TheVariants as origin
 use Rattle.bound_spec.specs.Certificates.{VisitOf, routes_of_place, kept_out, first_of_places, last_of_places, first_of_leg, last_of_leg, visit_from, cone_at, cone_of, train_to}
-use Rattle.bound_spec.specs.Validity.{is_empty, are_increasing, most_places, places_of, last_leg, is_numbered, place_in_design, leg_in_design, contends_with, contend_where_they_meet, are_few_choices, requirement_in_design, origin_in_design, names_design}
+use Rattle.bound_spec.specs.Validity.{is_empty, are_increasing, most_places, places_of, last_leg, is_numbered, place_in_design, leg_in_design, contend_over_own, contends_with, contend_where_they_meet, are_few_choices, requirement_in_design, origin_in_design, names_design}
 use Rattle.bound_clause.specs.Spoken.{ContendAll}
 
 some_same : {X : Type 0} {a b : X} → Some a ≡ Some b → a ≡ b
@@ -84,8 +84,8 @@ module _ (d : Station) (routes : List Route) where
   pub meeting_pairs : (l m : Leg) → leg_in_design d routes l ≡ true → leg_in_design d routes m ≡ true → contend_where_they_meet d routes l m ≡ true → ContendAll (pairs d routes) l m
   meeting_pairs l m h k both r i q j =
       let one = list_all_at (λ r. contends_with d routes (record { train = l.train; route = r }) m.train (first_of_leg m)) (routes_of_place (last_of_leg l)) r both i in
-      let two = list_all_at (λ q. contend routes (record { train = l.train; route = r }) (record { train = m.train; route = q })) (routes_of_place (first_of_leg m)) q one j in
-      pair_from d routes (record { train = l.train; route = r }) (record { train = m.train; route = q }) (last_command l r h i) (first_command m q k j) two
+      let two = list_all_at (λ q. contend_over_own d routes (record { train = l.train; route = r }) (record { train = m.train; route = q })) (routes_of_place (first_of_leg m)) q one j in
+      pair_from d routes (record { train = l.train; route = r }) (record { train = m.train; route = q }) (last_command l r h i) (first_command m q k j) (and_left (contend routes (record { train = l.train; route = r }) (record { train = m.train; route = q })) _ two)
 
   -- the routes that a train does not use are ones of the design
   pub without_fits : (rs without : List RouteNo) → place_in_design d routes (place.Among rs without) ≡ true → All (IsRoute routes) without

@@ -21,7 +21,7 @@ use Rattle.bound_spec.specs.declared.Leg.{Leg}
 use Rattle.bound_spec.specs.declared.Bound.{Bound}
 use Rattle.bound_spec.specs.Certificates.{VisitOf, routes_of_place, first_of_leg, last_of_leg, visit_from, cone_at, cone_of}
 use Rattle.bound_spec.specs.Clauses.{any_next, is_at, meet_named, are_where_they_meet, joins, may_join, begins_at_once, is_named, is_kept_out, is_before, is_kept_behind, used_literals, before_literals, clause_of_bound}
-use Rattle.bound_spec.specs.Validity.{contends_with, contend_where_they_meet, origin_in_design, is_consistent, in_design, are_few_choices, places_of, most_places, requirement_in_design, is_empty, leg_in_design, last_leg}
+use Rattle.bound_spec.specs.Validity.{contend_over_own, contends_with, contend_where_they_meet, origin_in_design, is_consistent, in_design, are_few_choices, places_of, most_places, requirement_in_design, is_empty, leg_in_design, last_leg}
 use Rattle.bound_spec.specs.Certificates.{train_to}
 
 -- two legs next to each other that pass the one test are in the other relation too
@@ -61,8 +61,9 @@ module _ (d : Station) (routes : List Route) (b : Bound) (fits : in_design d rou
       let r = has_route_in (routes_of_place (last_of_leg l)) e.route (and_right (is_train l.train e.train) _ on_l) in
       let q = has_route_in (routes_of_place (first_of_leg m)) c.route (and_right (is_train m.train c.train) _ on_m) in
       let one = list_all_at (λ r. contends_with d routes (record { train = l.train; route = r }) m.train (first_of_leg m)) (routes_of_place (last_of_leg l)) e.route both r in
-      let two = list_all_at (λ q. contend routes (record { train = l.train; route = e.route }) (record { train = m.train; route = q })) (routes_of_place (first_of_leg m)) c.route one q in
-      subst (λ t. contend routes (record { train = t; route = e.route }) c ≡ true) t (subst (λ u. contend routes (record { train = l.train; route = e.route }) (record { train = u; route = c.route }) ≡ true) u two)
+      let two = list_all_at (λ q. contend_over_own d routes (record { train = l.train; route = e.route }) (record { train = m.train; route = q })) (routes_of_place (first_of_leg m)) c.route one q in
+      let contending = and_left (contend routes (record { train = l.train; route = e.route }) (record { train = m.train; route = c.route })) _ two in
+      subst (λ t. contend routes (record { train = t; route = e.route }) c ≡ true) t (subst (λ u. contend routes (record { train = l.train; route = e.route }) (record { train = u; route = c.route }) ≡ true) u contending)
 
   -- so do those that a cone lists
   listed_contend : (e c : Command) → has_pair (cone_of b) e c ≡ true → contend routes e c ≡ true

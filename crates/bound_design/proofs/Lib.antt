@@ -1,6 +1,7 @@
 pub mod Ending
 pub mod Counting
-pub mod Paired
+pub mod LegRoutes
+pub mod OwnShared
 pub mod Joining
 pub mod Openings
 pub mod Earlier

@@ -1,5 +1,4 @@
 -- What a certificate names, held against an interlocking.
 pub mod Named
-pub mod Meeting
 pub mod Covering
 pub mod Covered

@@ -2,6 +2,7 @@
 use Rattle.std.specs.Prelude.{ℕ, Bool, not, ◌&&◌, ◌*◌, List, [], ◌∷◌, length, nat_le, Option, None, Some}
 use Rattle.std.specs.List.{list_all}
 use Rattle.rail_base.specs.declared.station.TrainNo.{TrainNo}
+use Rattle.rail_base.specs.declared.plan.Command.{Command}
 use Rattle.rail_base.specs.Members.{all_neighbors}
 use Rattle.rail_spec.specs.Plans.{is_train}
 use Rattle.interlocking.specs.declared.railway.Interlocking.{Interlocking}
@@ -10,9 +11,9 @@ use Rattle.bound_spec.specs.declared.Place.{Place}
 use Rattle.bound_spec.specs.declared.Leg.{Leg}
 use Rattle.bound_spec.specs.declared.Bound.{Bound}
 use Rattle.bound_spec.specs.Certificates.{VisitOf, routes_of_place, first_of_leg, train_to, visit_from}
-use Rattle.bound_spec.specs.Validity.{are_few_choices, choices, contend_where_they_meet, is_empty, last_leg}
-use Rattle.bound_spec.specs.Validity.{leg_in_design, most_choices, most_places, origin_in_design, place_in_design}
-use Rattle.bound_spec.specs.Validity.{places_of, requirement_in_design}
+use Rattle.bound_spec.specs.Validity.{are_few_choices, choices, contend_over_own, contend_where_they_meet}
+use Rattle.bound_spec.specs.Validity.{contends_with, is_empty, last_leg, leg_in_design, most_choices, most_places}
+use Rattle.bound_spec.specs.Validity.{origin_in_design, place_in_design, places_of, requirement_in_design}
 
 -- there are not too many choices on a leg, with those of the first place of the next leg, if there is one
 abbrev pub few_choices_before : Leg → List Leg → Bool
@@ -45,7 +46,15 @@ module _ (i : Interlocking) where
   abbrev pub leg_fits : Leg → Bool
   leg_fits = leg_in_design i.design.station i.routes
 
-  -- whatever the routes are, the first command of the second leg contends with the last of the first
+  -- the commands contend over an own section of the first
+  abbrev pub contend_over_own_in : Command → Command → Bool
+  contend_over_own_in = contend_over_own i.design.station i.routes
+
+  -- the command contends so with each that gives the train a route of the place
+  abbrev pub contends_with_in : Command → TrainNo → Place → Bool
+  contends_with_in = contends_with i.design.station i.routes
+
+  -- whatever the routes are, the last command of the first leg contends so with the first of the second
   abbrev pub contend_where_they_meet_in : Leg → Leg → Bool
   contend_where_they_meet_in = contend_where_they_meet i.design.station i.routes
 

@@ -18,5 +18,6 @@ mod visit;
 mod visits;
 
 pub use covering::is_covered;
+pub use meeting::contend_over_own;
 pub use stated::names_design;
 pub use visit::{Visit, visit_of};

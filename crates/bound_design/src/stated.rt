@@ -32,7 +32,7 @@ pub fn names_design(
     if !is_stated(contention.interlocking, bound) {
         return Ok(false);
     }
-    if !is_chain(contention, bound) {
+    if !is_chain(contention.interlocking, bound) {
         return Ok(false);
     }
     origin_in_design(alloc, contention, bound)
@@ -60,11 +60,11 @@ fn is_stated(interlocking: &Interlocking, bound: &Bound) -> bool
 }
 
 /// Whether the legs wait for each other, and the last is of the train of which something is required.
-fn is_chain(contention: &Contention, bound: &Bound) -> bool
-    requires { is_stated contention.now.interlocking.now bound.now ≡ true }
-    ensures { result ≡ is_chain contention.now.interlocking.now bound.now }
+fn is_chain(interlocking: &Interlocking, bound: &Bound) -> bool
+    requires { is_stated interlocking.now bound.now ≡ true }
+    ensures { result ≡ is_chain interlocking.now bound.now }
 {
     let legs = bound.legs.as_slice();
-    let last = requirement::last_train(contention.interlocking, bound.requirement);
-    legs_meet(contention, legs) && last_train(legs) == last
+    let last = requirement::last_train(interlocking, bound.requirement);
+    legs_meet(interlocking, legs) && last_train(legs) == last
 }

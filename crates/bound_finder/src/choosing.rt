@@ -3,7 +3,7 @@
 use crate::routes::{has_route, leads_to, starts_at_boundary, starts_like};
 use crate::search::BoundSearch;
 use bound_chains::goals::Goal;
-use bound_chains::known::{contend, route};
+use bound_chains::known::{contend_over_own, route};
 use bound_chains::paths::Span;
 use bound_spec::Origin;
 use cone_form::is_named;
@@ -207,7 +207,8 @@ impl BoundSearch<'_> {
         has_route(self.chains.tables.visit(visit.train, visit.number), route)
     }
 
-    /// Whether a route of a leg's first place contends with what the leg waits for, and is not used before that.
+    /// Whether a route of a leg's first place has a section that what the leg waits for goes over, and is not used
+    /// before that.
     fn may_wait(&self, wide: &Wide<'_, '_>, route: RouteNo) -> bool {
         let Some((train, walk)) = wide.before else {
             return true;
@@ -223,11 +224,11 @@ impl BoundSearch<'_> {
             train: wide.train,
             route,
         };
-        contend(self.chains.interlocking, earlier, own) && self.is_after(own, earlier)
+        contend_over_own(self.chains.interlocking, earlier, own) && self.is_after(own, earlier)
     }
 
-    /// Whether a route of a leg's last place contends with all that wait for the leg, and none of them is used before
-    /// it.
+    /// Whether all that wait for the leg have a section that a route of its last place goes over, and none of them is
+    /// used before it.
     fn may_release(&self, wide: &Wide<'_, '_>, route: RouteNo) -> bool {
         let Some(next) = wide.next else {
             return true;
@@ -241,7 +242,7 @@ impl BoundSearch<'_> {
                 train: next.train,
                 route: *other,
             };
-            contend(self.chains.interlocking, own, later) && self.is_after(later, own)
+            contend_over_own(self.chains.interlocking, own, later) && self.is_after(later, own)
         })
     }
 

@@ -20,7 +20,7 @@ use Rattle.rail_spec.specs.Track.{routes_of}
 use Rattle.rail_spec.specs.Plans.{route_at, is_train, path, path_routes, commands, length_mm, exits, preceding, precedes, contend, goes_on, route_numbers, all_commands}
 use Rattle.rail_spec.specs.Feasible.{IsWellFormed, IsFeasible, is_of}
 use Rattle.rail_spec.specs.Dispatches.{state_of, of_plan, has_cleared, is_ready, granted_with, granted_after}
-use Rattle.rail_spec.specs.Dispatches.{state_at}
+use Rattle.rail_spec.specs.Dispatches.{pasts_at, state_at}
 use Rattle.rail_spec.specs.Visits.{visits_of_train, visit_tick}
 use Rattle.rail_base.proofs.Members.{and_left, and_right, and_both, or_left, or_right, list_all_at, is_false, false_unless}
 use Rattle.rail_base.proofs.Lists.{in_filter_back, list_all_from, length-map}
@@ -60,6 +60,7 @@ use Rattle.bound_spec.proofs.Meeting.{Makes, PassedAt, passed_at, met, TwoVisits
 use Rattle.bound_spec.proofs.Chains.{Proper, Arrived, stands_on, arrived, ride_on, waits, meets_in}
 use Rattle.bound_spec.proofs.Rides.{chain_takes, chain_takes_from, waits_take, next_in}
 use Rattle.bound_spec.proofs.Walks.{walk_in, path_goes}
+use Rattle.bound_spec.proofs.Coming.{come_now}
 use Rattle.free_spec.proofs.Following.{neighbors_after}
 
 module _ (d : Station) (adm : IsAdmitted d) (n : ℕ) (b : Bound) (plan : List (List Command)) (feasible : IsFeasible d n plan) (p : Premises d (routes_of d) b plan) where
@@ -148,7 +149,8 @@ module _ (d : Station) (adm : IsAdmitted d) (n : ℕ) (b : Bound) (plan : List (
           let e : visit_offset d v.train v.number (f r.ride.last) ≡ visit_offset d m.train v.number (f a.stands.route) = ap₂ (λ t x. visit_offset d t v.number (f x)) same r.ends in
           let g = a.granted in
           let h = a.head in
-          and_both _ _ (le-leb (length r.ride.before + length r.ride.prefix + 1) (at k m.train).granted (omega arith))
+          come_now d (routes_of d) plan (reaches d (routes_of d) plan (ride_of (routes_of d) m) r.ride (target d v (walk_of d (routes_of d) plan (ride_of (routes_of d) m) r.ride))) k refl
+          ∙ and_both _ _ (le-leb (length r.ride.before + length r.ride.prefix + 1) (at k m.train).granted (omega arith))
           (le-leb (path_length d adm r.ride.before + target d v (walk_of d (routes_of d) plan (ride_of (routes_of d) m) r.ride)) (at k m.train).x (omega arith))
 
   -- the last leg of a command that is to be granted
@@ -160,7 +162,8 @@ module _ (d : Station) (adm : IsAdmitted d) (n : ℕ) (b : Bound) (plan : List (
           let count = ap length i.whole ∙ length-append i.before (i.prefix ++ i.last ∷ i.more) in
           let count2 = length-append i.prefix (i.last ∷ i.more) in
           let train = has_train d adm n plan well m.train (omega arith) in
-          and_both _ _ ((met d adm n plan feasible).granted m.train (length i.before + 1) train (omega arith) (omega arith)) (le-leb 0 (at (horizon d) m.train).x (omega arith))
+          come_now d (routes_of d) plan (granted_first d (routes_of d) plan (ride_of (routes_of d) m) i) (horizon d) refl
+          ∙ and_both _ _ ((met d adm n plan feasible).granted m.train (length i.before + 1) train (omega arith) (omega arith)) (le-leb 0 (at (horizon d) m.train).x (omega arith))
 
       go : (ps : List Place) → m.places ≡ ps → is_just d (routes_of d) r ps ≡ true → Ride_on (Goes (horizon d)) m
       go [] e h = absurd (true≢false (sym h))
@@ -189,7 +192,7 @@ module _ (d : Station) (adm : IsAdmitted d) (n : ℕ) (b : Bound) (plan : List (
   -- nothing is granted at the start
   granted_later : (m : Leg) (i : Ridden_on m) (k : ℕ) → Goes k m i → 1 ≤ k
   granted_later m i zero so =
-      let g = leb-true _ _ (and_left (nat_le (length i.before + 1) (at 0 m.train).granted) (nat_le 0 (at 0 m.train).x) so) in
+      let g = leb-true _ _ (and_left (nat_le (length i.before + 1) (at 0 m.train).granted) (nat_le 0 (at 0 m.train).x) (sym (come_now d (routes_of d) plan (granted_first d (routes_of d) plan (ride_of (routes_of d) m) i) 0 refl) ∙ so)) in
       let none = ap (λ (s : TrainState). s.granted) (idle_at_first d (routes_of d) (of_plan (routes_of d) plan) m.train) in
       absurd (omega arith)
   granted_later m i (suc k) so = omega arith
@@ -261,11 +264,14 @@ module _ (d : Station) (adm : IsAdmitted d) (n : ℕ) (b : Bound) (plan : List (
       may : can_visit d (routes_of d) v.train v.number r ≡ true
       may = list_all_at (can_visit d (routes_of d) v.train v.number) (routes_of_place (first_of_leg l)) r (and_left _ (v.number == 2 || is_made_at_end d (routes_of d) v) both) first
 
+      now : (nat_le (length i.before + 1) (at k l.train).granted && nat_le (path_length d adm i.before + visit_place d v (walk_of d (routes_of d) plan (ride_of (routes_of d) l) i)) (at k l.train).x) ≡ true
+      now = sym (come_now d (routes_of d) plan (passes d (routes_of d) plan (ride_of (routes_of d) l) i (visit_place d v (walk_of d (routes_of d) plan (ride_of (routes_of d) l) i))) k refl) ∙ so
+
       granted : length i.before + 1 ≤ (at k l.train).granted
-      granted = leb-true _ _ (and_left (nat_le (length i.before + 1) (at k l.train).granted) _ so)
+      granted = leb-true _ _ (and_left (nat_le (length i.before + 1) (at k l.train).granted) _ now)
 
       head : path_length d adm i.before + visit_offset d v.train v.number (f r) ≤ (at k l.train).x
-      head = let h = leb-true _ _ (and_right (nat_le (length i.before + 1) (at k l.train).granted) (nat_le (path_length d adm i.before + visit_place d v (walk_of d (routes_of d) plan (ride_of (routes_of d) l) i)) (at k l.train).x) so) in let e = visit_place_is v l i in omega arith
+      head = let h = leb-true _ _ (and_right (nat_le (length i.before + 1) (at k l.train).granted) (nat_le (path_length d adm i.before + visit_place d v (walk_of d (routes_of d) plan (ride_of (routes_of d) l) i)) (at k l.train).x) now) in let e = visit_place_is v l i in omega arith
 
       some : 1 ≤ k
       some = go k granted
@@ -332,7 +338,7 @@ module _ (d : Station) (adm : IsAdmitted d) (n : ℕ) (b : Bound) (plan : List (
       w = passed_at d adm n plan feasible v x makes
 
       granted : length i.before + 1 ≤ (at k l.train).granted
-      granted = leb-true _ _ (and_left (nat_le (length i.before + 1) (at k l.train).granted) (nat_le 0 (at k l.train).x) so)
+      granted = leb-true _ _ (and_left (nat_le (length i.before + 1) (at k l.train).granted) (nat_le 0 (at k l.train).x) (sym (come_now d (routes_of d) plan (granted_first d (routes_of d) plan (ride_of (routes_of d) l) i) k refl) ∙ so))
 
       entry_of : ℕ → Option PathNode
       entry_of m = entry None (visits_of_train d (routes_of d) (of_plan (routes_of d) plan) v.train) m
@@ -436,8 +442,8 @@ module _ (d : Station) (adm : IsAdmitted d) (n : ℕ) (b : Bound) (plan : List (
           let behind = p.not_earlier e c (known e kept.0) (known c c_in) (or_left _ _ (or_right (any_next (may_join c e) b.legs) _ (and_both _ _ at_once meet))) in
           true≢false (sym (and_both _ _ (and_both _ _ (in_has plan e kept.0) (in_has plan c c_in)) earlier) ∙ behind)
 
-      ready : is_ready d (routes_of d) (of_plan (routes_of d) plan) (state_at d (routes_of d) (of_plan (routes_of d) plan) 0) c ≡ true
-      ready = list_all_from (has_cleared d (routes_of d) (of_plan (routes_of d) plan) (state_at d (routes_of d) (of_plan (routes_of d) plan) 0) c) (preceding (routes_of d) plan c) (λ e i. absurd (nothing e i))
+      ready : is_ready d (routes_of d) (of_plan (routes_of d) plan) (pasts_at d (routes_of d) (of_plan (routes_of d) plan) 0) c ≡ true
+      ready = list_all_from (has_cleared d (routes_of d) (of_plan (routes_of d) plan) (pasts_at d (routes_of d) (of_plan (routes_of d) plan) 0) c) (preceding (routes_of d) plan c) (λ e i. absurd (nothing e i))
 
       named_train : IsTrain d v.train
       named_train = has_train d adm n plan well v.train (let l = ap length here in omega arith)
@@ -446,9 +452,9 @@ module _ (d : Station) (adm : IsAdmitted d) (n : ℕ) (b : Bound) (plan : List (
       granted =
           let none : (at 0 v.train).granted ≡ 0 = ap (λ (s : TrainState). s.granted) (idle_at_first d (routes_of d) (of_plan (routes_of d) plan) v.train) in
           let next : slice_get (path plan v.train) (at 0 v.train).granted ≡ Some m.route = ap (slice_get (path plan v.train)) none ∙ ap (λ ps. slice_get ps 0) here in
-          let after : granted_after d (routes_of d) (of_plan (routes_of d) plan) (state_at d (routes_of d) (of_plan (routes_of d) plan) 0) v.train ≡ (at 0 v.train).granted + 1 =
-          ap (granted_with d (routes_of d) (of_plan (routes_of d) plan) (state_at d (routes_of d) (of_plan (routes_of d) plan) 0) v.train) next ∙ ap (λ r. if r then (at 0 v.train).granted + 1 else (at 0 v.train).granted) ready in
-          let g = ap (λ (s : TrainState). s.granted) (state_after d (routes_of d) plan 0 v.train named_train) ∙ moved_granted d (routes_of d) plan v.train (at 0 v.train) (granted_after d (routes_of d) (of_plan (routes_of d) plan) (state_at d (routes_of d) (of_plan (routes_of d) plan) 0) v.train) (omega arith) in
+          let after : granted_after d (routes_of d) (of_plan (routes_of d) plan) (pasts_at d (routes_of d) (of_plan (routes_of d) plan) 0) v.train ≡ (at 0 v.train).granted + 1 =
+          ap (granted_with d (routes_of d) (of_plan (routes_of d) plan) (pasts_at d (routes_of d) (of_plan (routes_of d) plan) 0) v.train) next ∙ ap (λ r. if r then (at 0 v.train).granted + 1 else (at 0 v.train).granted) ready in
+          let g = ap (λ (s : TrainState). s.granted) (state_after d (routes_of d) plan 0 v.train named_train) ∙ moved_granted d (routes_of d) plan v.train (at 0 v.train) (granted_after d (routes_of d) (of_plan (routes_of d) plan) (pasts_at d (routes_of d) (of_plan (routes_of d) plan) 0) v.train) (omega arith) in
           omega arith
 
       first_pass : x ≤ 1

@@ -1,5 +1,5 @@
 -- In a feasible plan of which the clause of a certificate is false the legs are ridden, each after the one before.
-use Rattle.std.proofs.Common.{◌≡◌, ℕ, ◌+◌, ◌≤◌, ◌⊎◌, inl, inr, Bool, true, false, not, ◌&&◌, ◌||◌, nat_le, nat_lt, List, [], ◌∷◌, ◌++◌, map, length, sum_by, Option, None, Some, refl, sym, ap, ap₂, subst, ◌∙◌, arith, leb-true, le-leb, eq-eqb, true≢false, ℤ}
+use Rattle.std.proofs.Common.{◌≡◌, ℕ, ◌+◌, ◌≤◌, ◌⊎◌, inl, inr, Bool, true, false, not, ◌&&◌, ◌||◌, nat_le, nat_lt, List, [], ◌∷◌, ◌++◌, map, length, sum_by, Option, None, Some, refl, sym, ap, ap₂, subst, ◌∙◌, arith, leb-true, le-leb, eq-eqb, true≢false}
 use Rattle.std.specs.Prelude.{is_some}
 use Rattle.std.specs.List.{list_any, list_all}
 use Rattle.std.proofs.lemmas.List.{append_assoc, length-append, map-append}
@@ -16,12 +16,12 @@ use Rattle.rail_base.specs.Admission.{is_visit}
 use Rattle.rail_base.specs.Members.{In, all_neighbors}
 use Rattle.rail_base.specs.Stations.{train_of}
 use Rattle.rail_spec.specs.Track.{routes_of}
-use Rattle.rail_spec.specs.Plans.{route_at, is_train, is_route, path, commands, has_command, has_section, length_mm, shared, share, contend, precedes, preceding, step_of, may_stand, can_clear, route_numbers, all_commands}
+use Rattle.rail_spec.specs.Plans.{route_at, is_train, is_route, path, commands, has_command, has_section, own_sections, length_mm, own_shared, share, contend, precedes, preceding, step_of, may_stand, can_clear, route_numbers, all_commands}
 use Rattle.rail_spec.specs.Feasible.{IsWellFormed, IsFeasible, is_of}
 use Rattle.rail_spec.specs.Dispatches.{state_of, of_plan, state_at}
 use Rattle.rail_spec.specs.Requirements.{visit_numbers}
 use Rattle.rail_base.proofs.Members.{and_left, and_right, and_both, or_left, is_false, list_all_at, list_any_gives, list_any_from, in_filter}
-use Rattle.rail_base.proofs.Lists.{in_append, in_map, in_count_back}
+use Rattle.rail_base.proofs.Lists.{in_append, in_count_back}
 use Rattle.rail_laws.proofs.Given.{same_route, command_in_path}
 use Rattle.rail_laws.proofs.Standing.{in_path}
 use Rattle.cone_spec.specs.Cones.{has_route}
@@ -36,7 +36,7 @@ use Rattle.bound_spec.specs.declared.Bound.{Bound}
 use Rattle.bound_spec.specs.Rides.{Rides, first_of, first_command, last_command}
 use Rattle.bound_spec.specs.Certificates.{routes_of_place, named_at, kept_out, is_named_place, last_of_places, first_of_leg, last_of_leg, ride_of, visit_offset, cone_of}
 use Rattle.bound_spec.specs.Clauses.{any_next, stands_in, is_at, joins, may_join}
-use Rattle.bound_spec.specs.Validity.{place_in_design, is_numbered, is_empty, contend_where_they_meet, covers, can_visit, comes_before, is_used, is_visited, may_be_earlier, ends_at_signal}
+use Rattle.bound_spec.specs.Validity.{place_in_design, is_numbered, is_empty, contend_over_own, contend_where_they_meet, covers, can_visit, comes_before, is_used, is_visited, may_be_earlier, ends_at_signal}
 use Rattle.bound_spec.proofs.Premises.{Premises}
 use Rattle.bound_spec.proofs.Backwards.{Keeps, Ridden, ridden, covered_at, in_middle, first_splits, numbered, inner_route, ends_inside}
 use Rattle.bound_spec.proofs.Visits.{path_length, MadeOn, made_on, visit_in}
@@ -54,10 +54,8 @@ last_in [] h = absurd (true≢false h)
 last_in (p ∷ []) h = inl refl
 last_in (p ∷ q ∷ ps) h = inr (last_in (q ∷ ps) refl)
 
-some_shared : (r q : Route) → share r q ≡ true → (z : SectionNo) × In z (shared r q)
-some_shared r q h =
-    let g = list_any_gives (λ (p : SectionNo × ℤ). has_section q p.0) r.sections h in
-    (g.0.0, in_filter (has_section q) (map (λ (p : SectionNo × ℤ). p.0) r.sections) g.0.0 (in_map (λ (p : SectionNo × ℤ). p.0) r.sections g.0 g.1) g.2)
+some_shared : (r q : Route) → list_any (has_section q) (own_sections r) ≡ true → (z : SectionNo) × In z (own_shared r q)
+some_shared r q h = let g = list_any_gives (has_section q) (own_sections r) h in (g.0, in_filter (has_section q) (own_sections r) g.0 g.1 g.2)
 
 module _ (d : Station) (adm : IsAdmitted d) (n : ℕ) (b : Bound) (plan : List (List Command)) (feasible : IsFeasible d n plan) (p : Premises d (routes_of d) b plan) where
   abbrev f : RouteNo → Route
@@ -86,12 +84,12 @@ module _ (d : Station) (adm : IsAdmitted d) (n : ℕ) (b : Bound) (plan : List (
       sharing = and_right (not (is_train e.train c.train)) _ meet
 
       go : (x : Bool) → nat_lt (step_of plan c) (step_of plan e) ≡ x
-          → (is_train e.train c.train || not (share (f e.route) (f c.route)) || x || (nat_lt (step_of plan e) (step_of plan c) && list_all (can_clear d (routes_of d) plan e c) (shared (f e.route) (f c.route)))) ≡ true
+          → (is_train e.train c.train || not (share (f e.route) (f c.route)) || x || (nat_lt (step_of plan e) (step_of plan c) && list_all (can_clear d (routes_of d) plan e c) (own_shared (f e.route) (f c.route)))) ≡ true
           → nat_lt (step_of plan e) (step_of plan c) ≡ true
       go true x h = absurd (true≢false (sym (and_both _ _ (and_both _ _ (in_has plan c mc) (in_has plan e me)) x) ∙ behind))
       go false x h =
-          let k : (false || not true || false || (nat_lt (step_of plan e) (step_of plan c) && list_all (can_clear d (routes_of d) plan e c) (shared (f e.route) (f c.route)))) ≡ true =
-          sym (ap₂ (λ a s. a || not s || false || (nat_lt (step_of plan e) (step_of plan c) && list_all (can_clear d (routes_of d) plan e c) (shared (f e.route) (f c.route)))) other sharing) ∙ h in
+          let k : (false || not true || false || (nat_lt (step_of plan e) (step_of plan c) && list_all (can_clear d (routes_of d) plan e c) (own_shared (f e.route) (f c.route)))) ≡ true =
+          sym (ap₂ (λ a s. a || not s || false || (nat_lt (step_of plan e) (step_of plan c) && list_all (can_clear d (routes_of d) plan e c) (own_shared (f e.route) (f c.route)))) other sharing) ∙ h in
           and_left (nat_lt (step_of plan e) (step_of plan c)) _ k
 
   -- ---- legs of the certificate
@@ -270,9 +268,12 @@ module _ (d : Station) (adm : IsAdmitted d) (n : ℕ) (b : Bound) (plan : List (
     c_in = let s = first_splits d adm n plan well m.train j.prefix j.last j.more in
         given m.train (first_of d (routes_of d) plan j.prefix j.last) (subst (In (first_of d (routes_of d) plan j.prefix j.last)) (sym (j.whole ∙ ap (λ zs. j.before ++ zs) s.1)) (in_middle j.before (first_of d (routes_of d) plan j.prefix j.last) s.0))
 
+    over_own : contend_over_own d (routes_of d) e c ≡ true
+    over_own = list_all_at (λ q. contend_over_own d (routes_of d) e (record { train = m.train; route = q })) (routes_of_place (first_of_leg m)) (first_of d (routes_of d) plan j.prefix j.last)
+        (list_all_at (λ r. list_all (λ q. contend_over_own d (routes_of d) (record { train = l.train; route = r }) (record { train = m.train; route = q })) (routes_of_place (first_of_leg m))) (routes_of_place (last_of_leg l)) i.last meet last) first
+
     contending : contend (routes_of d) e c ≡ true
-    contending = list_all_at (λ q. contend (routes_of d) e (record { train = m.train; route = q })) (routes_of_place (first_of_leg m)) (first_of d (routes_of d) plan j.prefix j.last)
-        (list_all_at (λ r. list_all (λ q. contend (routes_of d) (record { train = l.train; route = r }) (record { train = m.train; route = q })) (routes_of_place (first_of_leg m))) (routes_of_place (last_of_leg l)) i.last meet last) first
+    contending = and_left (contend (routes_of d) e c) _ over_own
 
     at_both : (is_at l (last_of_leg l) e ≡ true) × (is_at m (first_of_leg m) c ≡ true)
     at_both = (and_both _ _ (eq-eqb l.train.0 l.train.0 refl) (in_has_route (routes_of_place (last_of_leg l)) i.last last), and_both _ _ (eq-eqb m.train.0 m.train.0 refl) (in_has_route (routes_of_place (first_of_leg m)) (first_of d (routes_of d) plan j.prefix j.last) first))
@@ -291,5 +292,5 @@ module _ (d : Station) (adm : IsAdmitted d) (n : ℕ) (b : Bound) (plan : List (
     pub waits : In e (preceding (routes_of d) plan c)
     waits = in_filter (λ x. precedes (routes_of d) plan x c) (commands plan) e e_in (and_both _ _ contending earlier)
 
-    pub meets_in : (z : SectionNo) × In z (shared (f i.last) (f (first_of d (routes_of d) plan j.prefix j.last)))
-    meets_in = some_shared (f i.last) (f (first_of d (routes_of d) plan j.prefix j.last)) (and_right (not (is_train l.train m.train)) _ contending)
+    pub meets_in : (z : SectionNo) × In z (own_shared (f i.last) (f (first_of d (routes_of d) plan j.prefix j.last)))
+    meets_in = some_shared (f i.last) (f (first_of d (routes_of d) plan j.prefix j.last)) (and_right (contend (routes_of d) e c) _ over_own)

@@ -1,5 +1,6 @@
 pub mod Ending
 pub mod Clearing
+pub mod Coming
 pub mod Links
 pub mod Hops
 pub mod HopLaws

@@ -15,7 +15,7 @@ use Rattle.rail_base.specs.Admitted.{IsAdmitted}
 use Rattle.rail_base.specs.Members.{In, all_neighbors}
 use Rattle.rail_base.specs.Stations.{IsTrain, train_length}
 use Rattle.rail_spec.specs.Track.{routes_of}
-use Rattle.rail_spec.specs.Plans.{route_at, length_mm, shared, release_offset, path, path_routes, preceding, goes_on}
+use Rattle.rail_spec.specs.Plans.{route_at, length_mm, own_shared, release_offset, path, path_routes, preceding, goes_on}
 use Rattle.rail_spec.specs.Feasible.{IsWellFormed}
 use Rattle.rail_spec.specs.Dispatches.{state_of, of_plan, routes_before, state_at}
 use Rattle.rail_base.proofs.Members.{and_left, and_right}
@@ -23,7 +23,7 @@ use Rattle.rail_base.proofs.Lists.{length-map}
 use Rattle.rail_laws.proofs.Admits.{sections_there}
 use Rattle.cone_spec.specs.Validity.{from_boundary}
 use Rattle.cone_spec.proofs.Prefixes.{not_to_boundary}
-use Rattle.bound_spec.specs.Events.{Takes, has_come_by}
+use Rattle.bound_spec.specs.Events.{Takes, has_come_by, granting, reaching}
 use Rattle.free_spec.specs.Legs.{HasLeg, least_ticks_waited}
 use Rattle.bound_spec.specs.Walks.{LieIn}
 use Rattle.bound_spec.specs.Rides.{Ride, first_place, greatest_of, release_place, least_route, run_ticks, ride_ticks, release_ticks, chain_ticks, Rides, walk_of, first_of, first_command, last_command, granted_first, reaches, Chained, arrives, on_ticks, chain_ticks_from, passes, first_target, wait_ticks, waits_out}
@@ -123,8 +123,8 @@ module _ (d : Station) (adm : IsAdmitted d) (n : ℕ) (plan : List (List Command
     run_takes y k so =
         let c = count in
         let e = end_is in
-        hop_by d adm n plan well.formed (granted_first d (routes_of d) plan r i) (reaches d (routes_of d) plan r i y) refl (omega arith) (omega arith) (λ a. (at a r.train).granted < length i.before + 1)
-        (let s = (at_start d adm n plan well.formed r.train).0 in omega arith) (λ a no. not_granted d adm n plan well.formed (granted_first d (routes_of d) plan r i) a refl no) _
+        hop_by d adm n plan well.formed (granted_first d (routes_of d) plan r i) (reaches d (routes_of d) plan r i y) refl refl refl (omega arith) (omega arith) (λ a. (at a r.train).granted < length i.before + 1)
+        (let s = (at_start d adm n plan well.formed r.train).0 in omega arith) (λ a no. not_granted d adm n plan well.formed (granted_first d (routes_of d) plan r i) a refl refl no) _
         (λ a b short there. whatever_follows d adm n plan well r.train before_routes walk (from_boundary walk) has_walk (λ l. least_ticks_waited d r.train l h 0 y) b
         (λ l own. waited d adm n plan well.formed r.train before_routes l own (length i.before + 1) a 0 y named (omega arith) short (omega arith) h b there)) k so
 
@@ -133,8 +133,8 @@ module _ (d : Station) (adm : IsAdmitted d) (n : ℕ) (plan : List (List Command
     on_takes x y k order so =
         let c = count in
         let e = end_is in
-        hop_by d adm n plan well.formed (passes d (routes_of d) plan r i x) (reaches d (routes_of d) plan r i y) refl (omega arith) (omega arith) (λ a. (at a r.train).x ≤ sum_by length_mm before_routes + (x - 1))
-        (let s = (at_start d adm n plan well.formed r.train).1 in omega arith) (λ a no. let w = not_yet d adm n plan well.formed (passes d (routes_of d) plan r i x) a (λ some. named) (omega arith) no in omega arith) _
+        hop_by d adm n plan well.formed (passes d (routes_of d) plan r i x) (reaches d (routes_of d) plan r i y) refl refl refl (omega arith) (omega arith) (λ a. (at a r.train).x ≤ sum_by length_mm before_routes + (x - 1))
+        (let s = (at_start d adm n plan well.formed r.train).1 in omega arith) (λ a no. let w = not_yet d adm n plan well.formed (passes d (routes_of d) plan r i x) a refl (λ some. named) (omega arith) no in omega arith) _
         (λ a b near there. whatever_follows d adm n plan well r.train before_routes walk (from_boundary walk) has_walk (λ l. least_ticks d r.train l h (x - 1) y) b
         (λ l own. takes d adm n plan well.formed r.train before_routes l own h a b (x - 1) y near there)) k so
 
@@ -168,7 +168,7 @@ module _ (d : Station) (adm : IsAdmitted d) (n : ℕ) (plan : List (List Command
           (least_of_route (λ q. run_ticks d (routes_of d) h r.train walk (release_place d r.train walk q)) h (first_place s) next next_in))
           (run_takes place k so)
 
-      place_is : (prefix : List RouteNo) → release_place d r.train (map f (prefix ++ i.last ∷ [])) next ≡ sum_by length_mm (map f prefix) + (greatest_of (release_offset (f i.last)) (shared (f i.last) next) + train_length d r.train)
+      place_is : (prefix : List RouteNo) → release_place d r.train (map f (prefix ++ i.last ∷ [])) next ≡ sum_by length_mm (map f prefix) + (greatest_of (release_offset (f i.last)) (own_shared (f i.last) next) + train_length d r.train)
       place_is [] = omega arith
       place_is (p ∷ []) = let s = sum_by-cons length_mm (f p) [] in omega arith
       place_is (p ∷ q ∷ ps) = let k = place_is (q ∷ ps) in let s = sum_by-cons length_mm (f p) (map f (q ∷ ps)) in omega arith
@@ -177,9 +177,9 @@ module _ (d : Station) (adm : IsAdmitted d) (n : ℕ) (plan : List (List Command
       first_is [] last more = (more, refl)
       first_is (p ∷ prefix) last more = (prefix ++ last ∷ more, refl)
 
-      link : In (last_command d (routes_of d) plan r i) (preceding (routes_of d) plan (first_command d (routes_of d) plan s j)) → (z : SectionNo) → In z (shared (f i.last) next) → (k : ℕ) → has_come_by d (routes_of d) plan (granted_first d (routes_of d) plan s j) k ≡ true
+      link : In (last_command d (routes_of d) plan r i) (preceding (routes_of d) plan (first_command d (routes_of d) plan s j)) → (z : SectionNo) → In z (own_shared (f i.last) next) → (k : ℕ) → has_come_by d (routes_of d) plan (granted_first d (routes_of d) plan s j) k ≡ true
           → Takes d (routes_of d) plan (reaches d (routes_of d) plan r i place) (granted_first d (routes_of d) plan s j) 1 k
-      link pre z m k so = go (greatest_is (release_offset (f i.last)) (shared (f i.last) next) z m)
+      link pre z m k so = go (greatest_is (release_offset (f i.last)) (own_shared (f i.last) next) z m)
         where
           e_before : routes_before d (routes_of d) (of_plan (routes_of d) plan) (last_command d (routes_of d) plan r i) ≡ map f (i.before ++ i.prefix)
           e_before = before_is r.train (i.before ++ i.prefix) i.last i.more (i.whole ∙ sym (append_assoc i.before i.prefix (i.last ∷ i.more)))
@@ -196,14 +196,14 @@ module _ (d : Station) (adm : IsAdmitted d) (n : ℕ) (plan : List (List Command
           e_sum : sum_by length_mm (routes_before d (routes_of d) (of_plan (routes_of d) plan) (last_command d (routes_of d) plan r i)) ≡ sum_by length_mm before_routes + sum_by length_mm (map f i.prefix)
           e_sum = ap (sum_by length_mm) (e_before ∙ map-append f i.before i.prefix) ∙ sum_by-append length_mm before_routes (map f i.prefix)
 
-          go : ((y : SectionNo) × In y (shared (f i.last) next) × (greatest_of (release_offset (f i.last)) (shared (f i.last) next) ≤ release_offset (f i.last) y)) → Takes d (routes_of d) plan (reaches d (routes_of d) plan r i place) (granted_first d (routes_of d) plan s j) 1 k
+          go : ((y : SectionNo) × In y (own_shared (f i.last) next) × (greatest_of (release_offset (f i.last)) (own_shared (f i.last) next) ≤ release_offset (f i.last) y)) → Takes d (routes_of d) plan (reaches d (routes_of d) plan r i place) (granted_first d (routes_of d) plan s j) 1 k
           go (y, my, most) =
               let e1 = e_sum in
               let e2 = place_is i.prefix in
-              let so' = subst (λ (m : ℕ). has_come_by d (routes_of d) plan (record { train = s.train; event = record { granted = m; place = 0 } }) k ≡ true) (sym c_number) so in
+              let so' = subst (λ (m : ℕ). has_come_by d (routes_of d) plan (granting s.train m) k ≡ true) (sym c_number) so in
               let h = clear d (routes_of d) plan (last_command d (routes_of d) plan r i) (first_command d (routes_of d) plan s j) y pre my (sum_by length_mm before_routes + place) k (omega arith) so' in
-              subst (λ (m : ℕ). Takes d (routes_of d) plan (record { train = r.train; event = record { granted = m; place = sum_by length_mm before_routes + place } }) (granted_first d (routes_of d) plan s j) 1 k) e_number
-              (subst (λ (m : ℕ). Takes d (routes_of d) plan (record { train = r.train; event = record { granted = length (routes_before d (routes_of d) (of_plan (routes_of d) plan) (last_command d (routes_of d) plan r i)) + 1; place = sum_by length_mm before_routes + place } }) (record { train = s.train; event = record { granted = m; place = 0 } }) 1 k) c_number h)
+              subst (λ (m : ℕ). Takes d (routes_of d) plan (reaching r.train m (sum_by length_mm before_routes + place)) (granted_first d (routes_of d) plan s j) 1 k) e_number
+              (subst (λ (m : ℕ). Takes d (routes_of d) plan (reaching r.train (length (routes_before d (routes_of d) (of_plan (routes_of d) plan) (last_command d (routes_of d) plan r i)) + 1) (sum_by length_mm before_routes + place)) (granting s.train m) 1 k) c_number h)
 
   pub chain_takes : (r : Ride) (i : Rides d (routes_of d) plan r) (ss : List Ride) (c : Chained d (routes_of d) plan r i ss) (target : List Route → ℕ) (k : ℕ) → has_come_by d (routes_of d) plan (arrives d (routes_of d) plan r i ss c target) k ≡ true
       → Takes d (routes_of d) plan (granted_first d (routes_of d) plan r i) (arrives d (routes_of d) plan r i ss c target) (chain_ticks d (routes_of d) h r ss target) k

@@ -9,7 +9,7 @@ use Rattle.rail_base.specs.Members.{In}
 use Rattle.rail_base.specs.Stations.{train_length}
 use Rattle.rail_base.specs.declared.state.TrainEvent.{TrainEvent}
 use Rattle.rail_spec.specs.Track.{routes_of}
-use Rattle.rail_spec.specs.Plans.{route_at, shared, release_offset, preceding, length_mm, path, path_routes}
+use Rattle.rail_spec.specs.Plans.{route_at, own_shared, release_offset, preceding, length_mm, path, path_routes}
 use Rattle.rail_spec.specs.Dispatches.{of_plan, routes_before}
 use Rattle.rail_laws.specs.Plans.{InEveryRun}
 use Rattle.free_spec.specs.Legs.{Leg, least_ticks, least_ticks_waited}
@@ -30,10 +30,10 @@ module _ (d : Station) (plan : List (List Command)) (t : TrainNo) (before : List
   WalkTakesLeast = (h x y : ℕ) → x ≤ y → let at : ℕ → TrainEvent = λ x. heading t (sum_by length_mm before + x) in
       HopTakes d (routes_of d) plan (at x) (at y) (least_ticks d t l h (x - 1) y - 1)
 
--- a command comes at least a tick after the one before it has released what the two share
+-- a command comes at least a tick after the one before it has released an own section that the two share
 abbrev pub WaitTakesTick : Station → List Route → List (List Command) → Type 0
 WaitTakesTick d routes plan = (e c : Command) (z : SectionNo) → In e (preceding routes plan c)
-    → In z (shared (route_at routes e.route) (route_at routes c.route))
+    → In z (own_shared (route_at routes e.route) (route_at routes c.route))
     → let before = routes_before d routes (of_plan routes plan) in let r = route_at routes e.route in
     (x : ℕ) → x ≤ sum_by length_mm (before e) + release_offset r z + train_length d e.train
     → let release = reaching e.train (length (before e) + 1) x in

@@ -9,7 +9,7 @@ use Rattle.rail_base.specs.declared.plan.Command.{Command}
 use Rattle.rail_base.specs.Members.{In}
 use Rattle.rail_base.specs.Stations.{train_length}
 use Rattle.rail_base.specs.declared.state.TrainEvent.{TrainEvent}
-use Rattle.rail_spec.specs.Plans.{route_at, length_mm, shared, release_offset, path, preceding}
+use Rattle.rail_spec.specs.Plans.{route_at, length_mm, own_shared, release_offset, path, preceding}
 use Rattle.cone_spec.specs.Validity.{from_boundary}
 use Rattle.free_spec.specs.Legs.{least_ticks, least_ticks_waited, least_whatever_follows}
 use Rattle.bound_spec.specs.Walks.{walks, least_walk, LieIn}
@@ -32,10 +32,10 @@ abbrev pub greatest_of : (SectionNo → ℕ) → List SectionNo → ℕ
 greatest_of f [] = 0
 greatest_of f (z ∷ zs) = max (f z) (greatest_of f zs)
 
--- the place on a walk, from its start, at which its last route has released all that it shares with another
+-- the place on a walk, from its start, at which its last route has released all own sections that it shares with another
 abbrev pub release_place : Station → TrainNo → List Route → Route → ℕ
 release_place d t [] q = 0
-release_place d t (r ∷ []) q = greatest_of (release_offset r) (shared r q) + train_length d t
+release_place d t (r ∷ []) q = greatest_of (release_offset r) (own_shared r q) + train_length d t
 release_place d t (r ∷ s ∷ rs) q = length_mm r + release_place d t (s ∷ rs) q
 
 -- the least of n and of what these routes give
@@ -110,20 +110,21 @@ module _ (d : Station) (routes : List Route) (plan : List (List Command)) where
 
   -- that the first command is granted
   abbrev pub granted_first : (r : Ride) → Rides r → TrainEvent
-  granted_first r i = record { train = r.train; event = record { granted = length i.before + 1; place = 0 } }
+  granted_first r i = record { train = r.train; event = record { granted = length i.before + 1; place = 0 }; ticks = 0 }
 
   -- that the head is so far on the walk, with all its commands granted
   abbrev pub reaches : (r : Ride) → Rides r → ℕ → TrainEvent
   reaches r i y = record {
     train = r.train;
     event = record { granted = length i.before + length i.prefix + 1; place = sum_by length_mm (map (route_at routes) i.before) + y };
+    ticks = 0;
   }
 
   -- rides of which each one's first command waits for the last of the one before
   abbrev pub Chained : (r : Ride) → Rides r → List Ride → Type 0
   Chained r i [] = Unit {0}
   Chained r i (s ∷ ss) = (j : Rides s) × In (last_command r i) (preceding routes plan (first_command s j))
-      × ((z : SectionNo) × In z (shared (route_at routes i.last) (route_at routes (first_of j.prefix j.last))))
+      × ((z : SectionNo) × In z (own_shared (route_at routes i.last) (route_at routes (first_of j.prefix j.last))))
       × Chained s j ss
 
   -- that the head of the last is at the place
@@ -141,6 +142,7 @@ module _ (d : Station) (routes : List Route) (plan : List (List Command)) where
   passes r i x = record {
     train = r.train;
     event = record { granted = length i.before + 1; place = sum_by length_mm (map (route_at routes) i.before) + x };
+    ticks = 0;
   }
 
   -- the place to which the first ride goes: where it has released what the next waits for, or the last place

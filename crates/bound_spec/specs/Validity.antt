@@ -11,7 +11,7 @@ use Rattle.rail_base.specs.declared.route.Finish.TheVariants as finish
 use Rattle.rail_base.specs.Members.{all_neighbors}
 use Rattle.rail_base.specs.Admission.{is_from, is_visit}
 use Rattle.rail_base.specs.Stations.{horizon, within_of}
-use Rattle.rail_spec.specs.Plans.{route_at, length_mm, is_train, is_route, goes_on, contend, exits, route_numbers, all_commands}
+use Rattle.rail_spec.specs.Plans.{route_at, length_mm, is_train, is_route, goes_on, has_section, own_sections, contend, exits, route_numbers, all_commands}
 use Rattle.rail_spec.specs.Feasible.{is_of}
 use Rattle.rail_spec.specs.Requirements.{most_ticks, visit_numbers}
 use Rattle.cone_spec.specs.Cones.{has_route, named}
@@ -118,11 +118,16 @@ module _ (d : Station) (routes : List Route) where
   leg_in_design l = is_from 1 (length d.trains) l.train.0 && not (is_empty l.places)
       && list_all place_in_design l.places
 
-  -- the command contends with each that gives the train a route of the place
-  abbrev pub contends_with : Command → TrainNo → Place → Bool
-  contends_with c t p = list_all (λ q. contend routes c (record { train = t; route = q })) (routes_of_place p)
+  -- the commands contend over an own section of the first: a later second one waits until the first's tail has left it
+  abbrev pub contend_over_own : Command → Command → Bool
+  contend_over_own e c = contend routes e c
+      && list_any (has_section (route_at routes c.route)) (own_sections (route_at routes e.route))
 
-  -- whatever the routes are, the first command of the second leg contends with the last of the first
+  -- the command contends so with each that gives the train a route of the place
+  abbrev pub contends_with : Command → TrainNo → Place → Bool
+  contends_with e t p = list_all (λ q. contend_over_own e (record { train = t; route = q })) (routes_of_place p)
+
+  -- whatever the routes are, the last command of the first leg contends so with the first of the second
   abbrev pub contend_where_they_meet : Leg → Leg → Bool
   contend_where_they_meet l m =
       list_all (λ r. contends_with (record { train = l.train; route = r }) m.train (first_of_leg m))

@@ -26,8 +26,8 @@ module _ (r : Ride) where
 
   -- on one walk, to a place
   abbrev pub walk_to_place : List RouteNo → ℕ → ℕ
-  walk_to_place walk place =
-      let i = r.interlocking.now in on i ticks_on r.most (origin_of r.from) r.leg.now.train (routes_at i.routes walk) place
+  walk_to_place walk place = let i = r.interlocking.now in
+      on i ticks_on r.most (origin_of r.from) r.leg.now.train (routes_at i.routes walk) place
 
   -- to a visit
   abbrev pub walk_to_visit : List RouteNo → Visit → ℕ
@@ -63,7 +63,8 @@ module _ (c : Claim) where
 
   -- from one visit to another
   abbrev pub ticks_from_to : Visit → Visit → ℕ
-  ticks_from_to from to = ticks_between_of c.contention.interlocking.now c.most c.bound.now (visit_of from) (visit_of to)
+  ticks_from_to from to =
+      ticks_between_of c.contention.interlocking.now c.most c.bound.now (visit_of from) (visit_of to)
 
   -- these are too many
   abbrev pub passes_from_to : Visit → Visit → Bool

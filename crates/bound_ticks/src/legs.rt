@@ -29,7 +29,8 @@ pub struct Ride<'a> {
 }
 
 impl Ride<'_> {
-    ghost use Rattle.bound_ticks.specs.Rides.{ride_to_visit, ride_to_release, walk_to_place, walk_to_visit, walk_to_release};
+    ghost use Rattle.bound_ticks.specs.Rides.{ride_to_visit, ride_to_release, walk_to_place, walk_to_visit};
+    ghost use Rattle.bound_ticks.specs.Rides.{walk_to_release};
 
     /// The least ticks to a visit over all walks of the leg.
     pub fn leg_to_visit(&self, alloc: Global, visit: Visit) -> Result<u64, AllocError>

@@ -9,18 +9,17 @@ use Rattle.rail_base.specs.declared.route.RouteNo.{RouteNo}
 use Rattle.rail_base.specs.declared.plan.Command.{Command}
 use Rattle.rail_base.specs.Numbering.{one_to}
 use Rattle.rail_base.specs.Stations.{train_of, train_length, first_visit}
-use Rattle.rail_spec.specs.Plans.{route_at, commands, step_of, is_train, is_start, goes_on, starts_in, can_clear, may_stand, is_executable, given_between, share, shared, release_offset, length_mm, exits, route_numbers, all_commands, contend}
+use Rattle.rail_spec.specs.Plans.{route_at, commands, step_of, is_train, is_start, goes_on, starts_in, can_clear, may_stand, is_executable, given_between, share, own_shared, release_offset, length_mm, exits, route_numbers, all_commands, contend}
 use Rattle.rail_base.proofs.Members.{In, and_left, and_right, and_both, list_any_from, in_filter, below_or_not, is_false, false_unless}
 use Rattle.clause_spec.specs.Variables.{Variable, Given}
 use Rattle.clause_spec.specs.Clauses.{extends, onward, chain_length, chains, clearing}
 use Rattle.clause_spec.specs.Models.{given_by}
 use Rattle.clause_spec.proofs.Lists.{Distinct, distinct_push, length_push, length_among, sum_among, sum_by-map}
 use Rattle.clause_spec.proofs.Steps.{cmd, is_train_self}
-use Rattle.clause_spec.proofs.Places.{IsOf, command_of, command_from, start_self, one_finish, boundary_first}
+use Rattle.clause_spec.proofs.Places.{IsOf, command_of, command_from, start_self, one_finish, boundary_first, left_each}
 use Rattle.clause_spec.proofs.Facts.{AllTrue, given_up_to, Led, led, one_of, starts_at_boundary, exclude_ends, not_at_one, goes_further}
 use Rattle.clause_spec.proofs.Decoded.{New}
 use Rattle.rail_base.proofs.Lists.{list_all_from, in_map, in_flat_map, in_filter_back, length-map, in_append_right, in_append, length-count}
-use Rattle.rail_laws.proofs.AsEdges.{fold_above}
 
 module _ (d : Station) (routes : List Route) (n : ℕ) (says : Variable → Bool) (all : AllTrue d routes n says) (plan : List (List Command)) where
   -- each command of the plan is new in its step, and whatever is given is in the plan
@@ -171,7 +170,7 @@ module _ (d : Station) (routes : List Route) (n : ℕ) (says : Variable → Bool
       in_between r b = in_filter (λ (g : Command). is_train g.train e.train && nat_le (step_of plan e) (step_of plan g) && nat_lt (step_of plan g) (step_of plan c)) (commands plan) (cmd e.train r) b.member
           (and_both (is_train e.train e.train && nat_le (step_of plan e) (step_of plan (cmd e.train r))) _ (and_both (is_train e.train e.train) _ (is_train_self e.train) (le-leb _ _ b.from)) (le-leb _ _ b.to))
 
-      pub clears : (z : SectionNo) → In z (shared (route_at routes e.route) (route_at routes c.route)) → can_clear d routes plan e c z ≡ true
+      pub clears : (z : SectionNo) → In z (own_shared (route_at routes e.route) (route_at routes c.route)) → can_clear d routes plan e c z ≡ true
       clears z m = go given_enough
         where
           either : (x y : Bool) → (x ≡ true) ⊎ (y ≡ true) → (x || y) ≡ true
@@ -185,7 +184,7 @@ module _ (d : Station) (routes : List Route) (n : ℕ) (says : Variable → Bool
               let p = sum_by-map length_mm (λ (g : Command). route_at routes g.route) (given_between plan e c) in
               let q = sum_by-map weight (λ (g : Command). g.route) (given_between plan e c) in
               let f = sum_among weight en.given (map (λ (g : Command). g.route) (given_between plan e c)) en.apart (λ r k. in_map (λ (g : Command). g.route) (given_between plan e c) (cmd e.train r) (in_between r (en.each r k))) in
-              let g = fold_above 0 (map (release_offset (route_at routes e.route)) (shared (route_at routes e.route) (route_at routes c.route))) (release_offset (route_at routes e.route) z) (in_map (release_offset (route_at routes e.route)) (shared (route_at routes e.route) (route_at routes c.route)) z m) in
+              let g = left_each (map (release_offset (route_at routes e.route)) (own_shared (route_at routes e.route) (route_at routes c.route))) (train_length d e.train) (release_offset (route_at routes e.route) z) (in_map (release_offset (route_at routes e.route)) (own_shared (route_at routes e.route) (route_at routes c.route)) z m) in
               omega arith
 
           go : Enough → can_clear d routes plan e c z ≡ true
@@ -209,14 +208,14 @@ module _ (d : Station) (routes : List Route) (n : ℕ) (says : Variable → Bool
         sooner false y h = h
 
         go : (same shares : Bool) → is_train e.train c.train ≡ same → share (route_at routes e.route) (route_at routes c.route) ≡ shares → (step_of plan c < step_of plan e) ⊎ (step_of plan e ≤ step_of plan c) → (step_of plan e < step_of plan c) ⊎ (step_of plan c ≤ step_of plan e)
-            → (same || not shares || nat_lt (step_of plan c) (step_of plan e) || (nat_lt (step_of plan e) (step_of plan c) && list_all (can_clear d routes plan e c) (shared (route_at routes e.route) (route_at routes c.route)))) ≡ true
+            → (same || not shares || nat_lt (step_of plan c) (step_of plan e) || (nat_lt (step_of plan e) (step_of plan c) && list_all (can_clear d routes plan e c) (own_shared (route_at routes e.route) (route_at routes c.route)))) ≡ true
         go true shares p q x y = refl
         go false false p q x y = refl
         go false true p q (inl l) y = later (nat_lt (step_of plan c) (step_of plan e)) _ (le-leb _ _ l)
         go false true p q (inr l) (inl h) =
             let con = and_both (not (is_train e.train c.train)) (share (route_at routes e.route) (route_at routes c.route)) (ap not p) q in
             sooner (nat_lt (step_of plan c) (step_of plan e)) _ (and_both (nat_lt (step_of plan e) (step_of plan c)) _ (le-leb _ _ h)
-            (list_all_from (can_clear d routes plan e c) (shared (route_at routes e.route) (route_at routes c.route)) (λ z i. clears e c m k con h z i)))
+            (list_all_from (can_clear d routes plan e c) (own_shared (route_at routes e.route) (route_at routes c.route)) (λ z i. clears e c m k con h z i)))
         go false true p q (inr l) (inr h) =
             let con = and_both (not (is_train e.train c.train)) (share (route_at routes e.route) (route_at routes c.route)) (ap not p) q in
             let one : step_of plan c ≡ step_of plan e = omega arith in

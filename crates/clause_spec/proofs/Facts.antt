@@ -12,8 +12,9 @@ use Rattle.rail_base.specs.declared.route.Start.TheVariants as start
 use Rattle.rail_base.specs.declared.plan.Command.{Command}
 use Rattle.rail_base.specs.Numbering.{one_to}
 use Rattle.rail_base.specs.Stations.{trains, train_of, first_visit}
-use Rattle.rail_spec.specs.Plans.{route_at, is_train, is_start, goes_on, end_at_one_signal, starts_in, has_node, share, has_section, route_numbers, all_commands, contend}
+use Rattle.rail_spec.specs.Plans.{route_at, is_train, is_start, goes_on, end_at_one_signal, starts_in, has_node, share, has_section, sections, route_numbers, all_commands, contend}
 use Rattle.rail_base.proofs.Members.{In, and_left, and_right, and_both, list_all_at, list_any_gives, list_any_from, in_filter, below_or_not, is_false, false_unless}
+use Rattle.rail_base.proofs.Sharing.{has_when_in, in_sections}
 use Rattle.sat_clause.specs.Clauses.{clause_holds}
 use Rattle.clause_spec.specs.Variables.{Variable, Given, Before, Literal, yes, no, if_given, pairs, numbered, number_of}
 use Rattle.clause_spec.specs.Clauses.{Clause, at_boundary, exclude, later_pairs, leading_to, onward, chains, start_clause, not_both, clearing, wait_clause, clauses, base_clauses}
@@ -86,13 +87,9 @@ exclude_sym r q h = go (three (at_boundary r.start && at_boundary q.start) (is_s
     go (inr (inr a)) = exclude_ends q r (finish_sym r.finish q.finish a)
 
 share_sym : (r q : Route) → share r q ≡ true → share q r ≡ true
-share_sym r q h = go (list_any_gives (λ p. has_section q p.0) r.sections h)
-  where
-    go : (p : SectionNo × ℤ) × In p r.sections × (has_section q p.0 ≡ true) → share q r ≡ true
-    go (p, m, e) =
-        let f = list_any_gives (λ (x : SectionNo × ℤ). x.0.0 == p.0.0) q.sections e in
-        list_any_from (λ x. has_section r x.0) q.sections f.0 f.1
-        (list_any_from (λ (x : SectionNo × ℤ). x.0.0 == f.0.0.0) r.sections p m (eq-eqb p.0.0 f.0.0.0 (sym (eqb-true f.0.0.0 p.0.0 f.2))))
+share_sym r q h =
+    let f = list_any_gives (has_section q) (sections r) h in
+    list_any_from (has_section r) (sections q) f.0 (in_sections q f.0 f.2) (has_when_in r f.0 f.1)
 
 train_differs : (e c : Command) → is_train e.train c.train ≡ false → is_train c.train e.train ≡ false
 train_differs e c h = false_unless (is_train c.train e.train) (λ k. true≢false (sym (eq-eqb e.train.0 c.train.0 (sym (eqb-true c.train.0 e.train.0 k))) ∙ h))

@@ -10,7 +10,7 @@ use Rattle.rail_base.specs.declared.route.Start.TheVariants as start
 use Rattle.rail_base.specs.declared.plan.Command.{Command}
 use Rattle.rail_base.specs.Numbering.{one_to, first_of_list}
 use Rattle.rail_base.specs.Stations.{trains, train_of, first_visit}
-use Rattle.rail_spec.specs.Plans.{route_at, path, path_routes, commands, step_of, one_each, is_train, is_start, goes_on, end_at_one_signal, begins_in, starts_in, has_node, is_path, is_well_formed, is_executable, may_stand, can_clear, share, shared, exits, route_numbers, all_commands, contend, has_command}
+use Rattle.rail_spec.specs.Plans.{route_at, path, path_routes, commands, step_of, one_each, is_train, is_start, goes_on, end_at_one_signal, begins_in, starts_in, has_node, is_path, is_well_formed, is_executable, may_stand, can_clear, share, own_shared, exits, route_numbers, all_commands, contend, has_command}
 use Rattle.rail_base.specs.Members.{all_pairs, all_neighbors}
 use Rattle.rail_base.proofs.Members.{In, and_left, and_right, and_both, list_all_at, in_filter, below_or_not, is_false}
 use Rattle.clause_spec.specs.Variables.{Given, Before, By, yes, no, if_given}
@@ -274,11 +274,11 @@ module _ (d : Station) (routes : List Route) (n : ℕ) (plan : List (List Comman
     ordered false true true earlier clears h k = inl refl
     ordered false true false earlier clears h k = inr k
 
-    pub in_turn : (e c : Command) → contend routes e c ≡ true → In e (commands plan) → In c (commands plan) → (step_of plan c < step_of plan e) ⊎ ((step_of plan e < step_of plan c) × (list_all (can_clear d routes plan e c) (shared (route_at routes e.route) (route_at routes c.route)) ≡ true))
-    in_turn e c h m k = go (ordered (is_train e.train c.train) (share (route_at routes e.route) (route_at routes c.route)) (nat_lt (step_of plan c) (step_of plan e)) (nat_lt (step_of plan e) (step_of plan c)) (list_all (can_clear d routes plan e c) (shared (route_at routes e.route) (route_at routes c.route))) h (stand e c m k))
+    pub in_turn : (e c : Command) → contend routes e c ≡ true → In e (commands plan) → In c (commands plan) → (step_of plan c < step_of plan e) ⊎ ((step_of plan e < step_of plan c) × (list_all (can_clear d routes plan e c) (own_shared (route_at routes e.route) (route_at routes c.route)) ≡ true))
+    in_turn e c h m k = go (ordered (is_train e.train c.train) (share (route_at routes e.route) (route_at routes c.route)) (nat_lt (step_of plan c) (step_of plan e)) (nat_lt (step_of plan e) (step_of plan c)) (list_all (can_clear d routes plan e c) (own_shared (route_at routes e.route) (route_at routes c.route))) h (stand e c m k))
       where
-        go : (nat_lt (step_of plan c) (step_of plan e) ≡ true) ⊎ ((nat_lt (step_of plan e) (step_of plan c) && list_all (can_clear d routes plan e c) (shared (route_at routes e.route) (route_at routes c.route))) ≡ true)
-            → (step_of plan c < step_of plan e) ⊎ ((step_of plan e < step_of plan c) × (list_all (can_clear d routes plan e c) (shared (route_at routes e.route) (route_at routes c.route)) ≡ true))
+        go : (nat_lt (step_of plan c) (step_of plan e) ≡ true) ⊎ ((nat_lt (step_of plan e) (step_of plan c) && list_all (can_clear d routes plan e c) (own_shared (route_at routes e.route) (route_at routes c.route))) ≡ true)
+            → (step_of plan c < step_of plan e) ⊎ ((step_of plan e < step_of plan c) × (list_all (can_clear d routes plan e c) (own_shared (route_at routes e.route) (route_at routes c.route)) ≡ true))
         go (inl f) = inl (leb-true _ _ f)
         go (inr f) = inr (leb-true _ _ (and_left (nat_lt (step_of plan e) (step_of plan c)) _ f), and_right (nat_lt (step_of plan e) (step_of plan c)) _ f)
 
@@ -298,7 +298,7 @@ module _ (d : Station) (routes : List Route) (n : ℕ) (plan : List (List Comman
             let y = so_step c i b in
             go i p q x y (in_turn e c con (so_in e i a) (so_in c i b))
           where
-            go : (i : ℕ) → i - 1 < step_of plan e → i - 1 < step_of plan c → step_of plan e ≤ i → step_of plan c ≤ i → (step_of plan c < step_of plan e) ⊎ ((step_of plan e < step_of plan c) × (list_all (can_clear d routes plan e c) (shared (route_at routes e.route) (route_at routes c.route)) ≡ true)) → ⊥
+            go : (i : ℕ) → i - 1 < step_of plan e → i - 1 < step_of plan c → step_of plan e ≤ i → step_of plan c ≤ i → (step_of plan c < step_of plan e) ⊎ ((step_of plan e < step_of plan c) × (list_all (can_clear d routes plan e c) (own_shared (route_at routes e.route) (route_at routes c.route)) ≡ true)) → ⊥
             go i p q x y (inl l) = absurd (omega arith)
             go i p q x y (inr l) = let k = l.0 in absurd (omega arith)
 

@@ -1,5 +1,5 @@
 -- Starts and finishes, commands of a design, and routes that share a section.
-use Rattle.std.proofs.Common.{◌≡◌, ℕ, ◌≤◌, true, false, List, filter, length, refl, sym, ap, subst, ◌∙◌, arith, true≢false, eqb-true, eq-eqb, ℤ}
+use Rattle.std.proofs.Common.{◌≡◌, ℕ, ◌+◌, ◌≤◌, true, false, List, [], ◌∷◌, filter, length, refl, sym, ap, subst, ◌∙◌, arith, true≢false, eqb-true, eq-eqb, ℤ}
 use Rattle.rail_base.specs.declared.station.Station.{Station}
 use Rattle.rail_base.specs.declared.station.SectionNo.{SectionNo}
 use Rattle.rail_base.specs.declared.station.TrainNo.{TrainNo}
@@ -12,12 +12,13 @@ use Rattle.rail_base.specs.declared.route.Finish.TheVariants as finish
 use Rattle.rail_base.specs.declared.plan.Command.{Command}
 use Rattle.rail_base.specs.Numbering.{one_to}
 use Rattle.rail_base.specs.Stations.{trains}
-use Rattle.rail_spec.specs.Plans.{is_start, goes_on, end_at_one_signal, share, shared, sections, has_section, route_numbers, commands_of, all_commands, contend}
+use Rattle.rail_spec.specs.Plans.{is_start, goes_on, end_at_one_signal, share, own_shared, sections, has_section, route_numbers, commands_of, all_commands, contend}
 use Rattle.rail_base.proofs.Members.{In, list_any_gives, in_filter}
 use Rattle.clause_spec.specs.Variables.{pairs, pairs_before}
-use Rattle.clause_spec.specs.Clauses.{at_boundary}
+use Rattle.clause_spec.specs.Clauses.{at_boundary, left_by}
 use Rattle.clause_spec.proofs.Lists.{Distinct, distinct_count, distinct_map}
 use Rattle.clause_spec.proofs.Steps.{cmd}
+use Rattle.rail_laws.proofs.AsEdges.{fold_above}
 use Rattle.rail_base.proofs.Lists.{in_map_back, in_map, in_flat_map_back, in_flat_map, in_filter_back, in_count}
 
 -- ---- starts and finishes
@@ -117,10 +118,9 @@ pub pair_from : (d : Station) (routes : List Route) (e c : Command) → In e (al
 pair_from d routes e c m k h =
     in_flat_map (pairs_before d routes) (all_commands d routes) e (e, c) m (in_map (λ (u : Command). (e, u)) (filter (contend routes e) (all_commands d routes)) c (in_filter (contend routes e) (all_commands d routes) c k h))
 
--- ---- shared sections
+-- ---- places that a tail leaves
 
--- routes that share have a section that is shared
-pub some_shared : (r q : Route) → share r q ≡ true → (z : SectionNo) × In z (shared r q)
-some_shared r q h =
-    let f = list_any_gives (λ p. has_section q p.0) r.sections h in
-    (f.0.0, in_filter (has_section q) (sections r) f.0.0 (in_map (λ (p : SectionNo × ℤ). p.0) r.sections f.0 f.1) f.2)
+-- a tail that has left all these places has left each
+pub left_each : (xs : List ℕ) (l x : ℕ) → In x xs → x + l ≤ left_by xs l
+left_each [] l x m = absurd m
+left_each (y ∷ ys) l x m = let g = fold_above 0 (y ∷ ys) x m in omega arith

@@ -12,15 +12,15 @@ use Rattle.rail_base.specs.declared.route.RouteNo.{RouteNo}
 use Rattle.rail_base.specs.declared.plan.Command.{Command}
 use Rattle.rail_base.specs.Numbering.{one_to}
 use Rattle.rail_base.specs.Stations.{train_length}
-use Rattle.rail_spec.specs.Plans.{route_at, path, commands, step_of, routes_given, is_train, is_start, can_clear, given_between, shared, release_offset, length_mm, exits, route_numbers, contend}
+use Rattle.rail_spec.specs.Plans.{route_at, path, commands, step_of, routes_given, is_train, is_start, can_clear, given_between, own_shared, release_offset, length_mm, exits, route_numbers, contend}
 use Rattle.rail_base.proofs.Members.{In, and_left, and_right, and_both, list_all_at, list_any_gives, in_filter, below_or_not, false_unless}
 use Rattle.clause_spec.specs.Variables.{Given, Literal, yes, no}
-use Rattle.clause_spec.specs.Clauses.{Clause, extends, onward, chain_length, chains, clearing, wait_clause, waits}
+use Rattle.clause_spec.specs.Clauses.{Clause, extends, onward, chain_length, chains, clearing, left_by, wait_clause, waits}
 use Rattle.clause_spec.specs.Models.{holds, is_so}
 use Rattle.clause_spec.proofs.Lists.{Distinct, sum_among, sum_by-map, below_one, distinct_kept}
 use Rattle.clause_spec.proofs.Steps.{cmd, step_low, Placed, one_a_step}
 use Rattle.clause_spec.proofs.Truth.{Fails, at_clause, no_false, yes_false}
-use Rattle.clause_spec.proofs.Places.{one_start, some_shared}
+use Rattle.clause_spec.proofs.Places.{one_start}
 use Rattle.clause_spec.proofs.Forward.{IsChain, Found, chains_are, links, Fit, way, one, of, place, same_start, so_in, so_step, so_from, so_not, in_turn}
 use Rattle.rail_base.proofs.Lists.{in_map_back, in_map, in_flat_map_back, in_filter_back, in_append_left, in_append_right}
 use Rattle.rail_laws.proofs.Given.{same_train}
@@ -127,7 +127,7 @@ module _ (d : Station) (routes : List Route) (n : ℕ) (plan : List (List Comman
         let y = in_map_back (λ (g : Command). route_at routes g.route) (given_between plan e c) x.0 x.1 in
         true≢false (sym x.2 ∙ (ap exits (sym y.2) ∙ s.is.stays y.0.route (given_inside y.0 y.1))))
 
-    cannot : (z : SectionNo) → In z (shared (route_at routes e.route) (route_at routes c.route)) → chain_length routes chain.0 < release_offset (route_at routes e.route) z + train_length d e.train → can_clear d routes plan e c z ≡ true → ⊥
+    cannot : (z : SectionNo) → In z (own_shared (route_at routes e.route) (route_at routes c.route)) → chain_length routes chain.0 < release_offset (route_at routes e.route) z + train_length d e.train → can_clear d routes plan e c z ≡ true → ⊥
     cannot z m l h = go (nat_le (release_offset (route_at routes e.route) z + train_length d e.train) (sum_by length_mm (map (λ (g : Command). route_at routes g.route) (given_between plan e c)))) refl
         (list_any exits (map (λ (g : Command). route_at routes g.route) (given_between plan e c))) no_exit h
       where
@@ -141,14 +141,17 @@ module _ (d : Station) (routes : List Route) (n : ℕ) (plan : List (List Comman
         release : SectionNo → ℕ
         release z = release_offset (route_at routes e.route) z
 
-        go : (step_of plan c < step_of plan e) ⊎ ((step_of plan e < step_of plan c) × (list_all (can_clear d routes plan e c) (shared (route_at routes e.route) (route_at routes c.route)) ≡ true)) → ⊥
+        go : (step_of plan c < step_of plan e) ⊎ ((step_of plan e < step_of plan c) × (list_all (can_clear d routes plan e c) (own_shared (route_at routes e.route) (route_at routes c.route)) ≡ true)) → ⊥
         go (inl l) = let a = so_step d routes n plan fit e i (s.given e.route s.has) in let b = s.next in absurd (omega arith)
-        go (inr l) =
-            let zs = shared (route_at routes e.route) (route_at routes c.route) in
-            let some = some_shared (route_at routes e.route) (route_at routes c.route) (and_right (not (is_train e.train c.train)) _ s.contend) in
-            let y = below_one (map (release_offset (route_at routes e.route)) zs) (train_length d e.train) (chain_length routes chain.0) (release_offset (route_at routes e.route) some.0) (in_map (release_offset (route_at routes e.route)) zs some.0 some.1) s.is.short in
-            let z = in_map_back (release_offset (route_at routes e.route)) zs y.0 y.1 in
-            cannot z.0 z.1 (subst (λ v. chain_length routes chain.0 < v + train_length d e.train) (sym z.2) y.2) (list_all_at (can_clear d routes plan e c) zs z.0 l.1 z.1)
+        go (inr l) = some (own_shared (route_at routes e.route) (route_at routes c.route)) (λ z m. m) s.is.short l.1
+          where
+            some : (zs : List SectionNo) → ((z : SectionNo) → In z zs → In z (own_shared (route_at routes e.route) (route_at routes c.route)))
+                → chain_length routes chain.0 < left_by (map (release_offset (route_at routes e.route)) zs) (train_length d e.train) → list_all (can_clear d routes plan e c) zs ≡ true → ⊥
+            some [] there short clear = absurd (omega arith)
+            some (first ∷ zs) there short clear =
+                let y = below_one (map release (first ∷ zs)) (train_length d e.train) (chain_length routes chain.0) (release first) (inl refl) short in
+                let z = in_map_back release (first ∷ zs) y.0 y.1 in
+                cannot z.0 (there z.0 z.1) (subst (λ v. chain_length routes chain.0 < v + train_length d e.train) (sym z.2) y.2) (list_all_at (can_clear d routes plan e c) (first ∷ zs) z.0 clear z.1)
 
 module _ (d : Station) (routes : List Route) (n : ℕ) (plan : List (List Command)) (fit : Fit d routes n plan) where
   pub waits_holds : (e c : Command) (cl : Clause) → contend routes e c ≡ true → In cl (waits d routes n (e, c)) → holds (is_so plan) cl ≡ true

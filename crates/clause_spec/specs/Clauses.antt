@@ -12,7 +12,7 @@ use Rattle.rail_base.specs.declared.route.Start.TheVariants as start
 use Rattle.rail_base.specs.declared.plan.Command.{Command}
 use Rattle.rail_base.specs.Numbering.{one_to, entry}
 use Rattle.rail_base.specs.Stations.{trains, train_of, train_length, first_visit}
-use Rattle.rail_spec.specs.Plans.{route_at, goes_on, is_start, end_at_one_signal, exits, length_mm, shared}
+use Rattle.rail_spec.specs.Plans.{route_at, goes_on, is_start, end_at_one_signal, exits, length_mm, own_shared}
 use Rattle.rail_spec.specs.Plans.{release_offset, has_node, route_numbers, all_commands}
 use Rattle.rail_spec.specs.Places as places
 use Rattle.clause_spec.specs.Variables.{Given, Before, By, Literal, yes, no, if_given, pairs, numbered}
@@ -36,6 +36,11 @@ exclude r q =
 abbrev pub later_pairs : {X : Type 0} → List X → List (X × X)
 later_pairs [] = []
 later_pairs (x ∷ xs) = map (λ y. (x, y)) xs ++ later_pairs xs
+
+-- so far is a tail of this length past the last of these places; there is none to pass where the list is empty
+abbrev pub left_by : List ℕ → ℕ → ℕ
+left_by [] length = 0
+left_by (x ∷ xs) length = fold max 0 (x ∷ xs) + length
 
 module _ (routes : List Route) where
   -- the routes that end where this one starts
@@ -114,10 +119,10 @@ module _ (d : Station) (routes : List Route) (n : ℕ) where
 
   -- ---- a contending command waits until enough track is given to clear the shared sections
 
-  -- so much track clears all the sections that they share
+  -- so much track clears all own sections of the first that they share
   abbrev pub clearing : Command → Command → ℕ
   clearing e c = let r = route_at routes e.route in
-      fold max 0 (map (release_offset r) (shared r (route_at routes c.route))) + train_length d e.train
+      left_by (map (release_offset r) (own_shared r (route_at routes c.route))) (train_length d e.train)
 
   -- where the train is given the chain and no route onward, the other command is not new in the next step
   abbrev pub wait_clause : Command → Command → List RouteNo × RouteNo → ℕ → Clause

@@ -6,11 +6,9 @@ use Rattle.rail_base.specs.Admitted.{IsAdmitted}
 use Rattle.rail_spec.specs.Track.{routes_of}
 use Rattle.rail_laws.proofs.Authority.{stands_at_place, stands_at_visit, waits_at_place}
 use Rattle.rail_course.specs.Journeys.{IsJourney}
-use Rattle.rail_course.specs.Waits.{IsContending}
 use Rattle.cone_spec.specs.declared.Cone.{Cone}
 use Rattle.cone_spec.specs.Cones.{named, of_cone}
 use Rattle.cone_spec.specs.Validity.{in_design}
-use Rattle.cone_spec.proofs.Naming.{of_design, listed_is, waits_listed}
 use Rattle.dispatch_run.specs.declared.traffic.FollowedTrain.{FollowedTrain}
 use Rattle.dispatch_run.specs.FollowedTrains.{IsFollowedTrain, MayGo, follows}
 use Rattle.cone_run.specs.Standing.{StandsInRun}
@@ -21,9 +19,6 @@ pub followed_train_is : (d : Station) (routes : List Route) (k : Cone) (f : Foll
 followed_train_is d routes k f is ends = record { journey = is; following = λ i. ap (λ u. follows u i) (sym ends) }
 
 module _ (d : Station) (routes : List Route) (k : Cone) (known : in_design d routes k ≡ true) where
-  pub contending : IsContending d routes (of_cone k)
-  contending c e m = (listed_is d routes k (of_design d routes k known) e c (waits_listed d routes k e c m)).sharing
-
   pub may_go : IsAdmitted d → routes ≡ routes_of d → MayGo d routes (of_cone k)
   may_go adm table = record {
     on = can_go_at d routes k adm (cone_orderly d adm routes table k known);

@@ -4,4 +4,4 @@ pub mod Leading
 pub mod Looking
 pub mod Asking
 pub mod Listing
-pub mod Gathered
+pub mod Waiting

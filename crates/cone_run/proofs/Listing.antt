@@ -1,6 +1,5 @@
 -- The commands that are listed before one stand in order among those that contend with it.
-use Rattle.std.proofs.Common.{◌≡◌, ℕ, ◌+◌, ◌<◌, ◌⊎◌, inl, inr, Bool, true, false, cond, List, [], ◌∷◌, ◌++◌, map, filter, drop, get_or, length, refl, sym, ap, ap₂, subst, ◌∙◌}
-use Rattle.std.proofs.lemmas.List.{append_assoc, drop_more}
+use Rattle.std.proofs.Common.{◌≡◌, ◌⊎◌, inl, inr, Bool, true, List, [], ◌∷◌, map, filter, refl, sym, ap₂, subst, ◌∙◌}
 use Rattle.std.specs.List.{list_all}
 use Rattle.rail_base.specs.declared.station.Station.{Station}
 use Rattle.rail_base.specs.declared.route.Route.{Route}
@@ -102,21 +101,3 @@ module _ (d : Station) (routes : List Route) (k : Cone) (known : in_design d rou
           let there = listed_there d routes k known (e, c) (subst (λ p. In p k.pairs) (is_pair_same e c f.0 f.2) f.1) in
           let turned = in_filter (λ p. is_command p.0 c) (pairs d routes) (c, e) (mirrored d routes e c there) (is_command_self c) in
           in_filter (λ e. has_pair k e c) rivals e (in_map (λ p. p.1) (filter (λ p. is_command p.0 c) (pairs d routes)) (c, e) turned) l
-
--- one more of the commands that contend with it, which is listed or is not
-module _ {W : Type 0} (wait : Command → W) (listed : Command → Bool) (run : List Command) (i : ℕ) (other : Command) (inside : i < length run) where
-  pub listed_next : (now new all : List W) → listed (get_or run i other) ≡ true → new ≡ now ++ wait (get_or run i other) ∷ [] → now ++ map wait (filter listed (drop i run)) ≡ all → new ++ map wait (filter listed (drop (i + 1) run)) ≡ all
-  listed_next now new all t e h =
-      let e' : Command = get_or run i other in
-      let later : List Command = drop (i + 1) run in
-      ap (λ ws. ws ++ map wait (filter listed later)) e
-      ∙ (append_assoc now (wait e' ∷ []) (map wait (filter listed later))
-      ∙ (ap (λ b. now ++ map wait (cond b (e' ∷ filter listed later) (filter listed later))) (sym t)
-      ∙ (ap (λ es. now ++ map wait (filter listed es)) (sym (drop_more run i other inside)) ∙ h)))
-
-  pub unlisted_next : (now all : List W) → listed (get_or run i other) ≡ false → now ++ map wait (filter listed (drop i run)) ≡ all → now ++ map wait (filter listed (drop (i + 1) run)) ≡ all
-  unlisted_next now all t h =
-      let e' : Command = get_or run i other in
-      let later : List Command = drop (i + 1) run in
-      ap (λ b. now ++ map wait (cond b (e' ∷ filter listed later) (filter listed later))) (sym t)
-      ∙ (ap (λ es. now ++ map wait (filter listed es)) (sym (drop_more run i other inside)) ∙ h)

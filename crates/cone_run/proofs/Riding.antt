@@ -9,7 +9,7 @@ use Rattle.rail_base.specs.Members.{In}
 use Rattle.rail_base.specs.Routes.{route_at}
 use Rattle.rail_base.specs.Stations.{IsTrain, horizon, vehicle_of}
 use Rattle.rail_spec.specs.Motion.{permitted, reach}
-use Rattle.rail_spec.specs.Dispatches.{state_of, state_at, rates, stretches, granted_after, moved, speed_in, with_granted, authority}
+use Rattle.rail_spec.specs.Dispatches.{state_of, pasts_at, state_at, rates, stretches, granted_after, moved, speed_in, with_granted, authority}
 use Rattle.rail_laws.specs.Standing.{IsOrderly}
 use Rattle.rail_laws.proofs.Authority.{next_grants, stood_ticks, still, travels}
 use Rattle.cone_spec.specs.declared.Cone.{Cone}
@@ -51,7 +51,7 @@ module _ (d : Station) (routes : List Route) (k : Cone) where
   stays_small adm (suc n) t = go (after_tick d routes (of_cone k) n t) (stays_small adm n t)
     where
       step : (b : Bool) → IsTrain d t → IsSmall n (state_of (state_at d routes (of_cone k) n) t)
-          → IsSmall (suc n) (if b then moved d routes (of_cone k) t (state_of (state_at d routes (of_cone k) n) t) (granted_after d routes (of_cone k) (state_at d routes (of_cone k) n) t) else state_of (state_at d routes (of_cone k) n) t)
+          → IsSmall (suc n) (if b then moved d routes (of_cone k) t (state_of (state_at d routes (of_cone k) n) t) (granted_after d routes (of_cone k) (pasts_at d routes (of_cone k) n) t) else state_of (state_at d routes (of_cone k) n) t)
       step true there h = moved_small t n _ _ (top_speed d adm t there) h
       step false there h = let a = h.x in let s = suc-mul n 100000 in record { x = omega arith; v = h.v }
 
@@ -82,10 +82,10 @@ module _ (d : Station) (routes : List Route) (k : Cone) where
       go (suc g) e l = still d routes (of_cone k) orderly t there old g (travels d routes (of_cone k) orderly n t) e
 
   pub can_move_at : IsAdmitted d → IsOrderly d routes (of_cone k) → (n : ℕ) → n ≤ 86400 → (t : TrainNo) → IsTrain d t
-      → CanMove d routes (of_cone k) t (granted_after d routes (of_cone k) (state_at d routes (of_cone k) n) t) (state_of (state_at d routes (of_cone k) n) t)
+      → CanMove d routes (of_cone k) t (granted_after d routes (of_cone k) (pasts_at d routes (of_cone k) n) t) (state_of (state_at d routes (of_cone k) n) t)
   can_move_at adm orderly n early t there =
-      let s = state_at d routes (of_cone k) n in
-      may_move adm orderly n early t there (granted_after d routes (of_cone k) s t) (granted_after_most d routes (of_cone k) s t (granted_on_path d routes (of_cone k) n t)) (next_grants d routes (of_cone k) s t)
+      let ps = pasts_at d routes (of_cone k) n in
+      may_move adm orderly n early t there (granted_after d routes (of_cone k) ps t) (granted_after_most d routes (of_cone k) ps t (granted_on_path d routes (of_cone k) n t)) (next_grants d routes (of_cone k) ps t)
 
   pub can_go_at : IsAdmitted d → IsOrderly d routes (of_cone k) → (n : ℕ) → n ≤ 86400 → (t : TrainNo) → IsTrain d t
       → CanMove d routes (of_cone k) t (state_of (state_at d routes (of_cone k) n) t).granted (state_of (state_at d routes (of_cone k) n) t)

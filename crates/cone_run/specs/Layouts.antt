@@ -10,7 +10,7 @@ use Rattle.rail_base.specs.declared.route.RouteNo.{RouteNo}
 use Rattle.rail_base.specs.declared.plan.Command.{Command}
 use Rattle.rail_base.specs.declared.plan.Violation.{Violation}
 use Rattle.rail_base.specs.declared.history.TrainHistory.{TrainHistory}
-use Rattle.rail_spec.specs.Dispatches.{state_at}
+use Rattle.rail_spec.specs.Dispatches.{pasts_at}
 use Rattle.rail_spec.specs.Dispatches as dispatches
 use Rattle.rail_spec.specs.Requirements.{most_ticks}
 use Rattle.cone_spec.specs.declared.ConeFault.{ConeFault}
@@ -75,7 +75,7 @@ module _ (l : ConeLayout) where
   -- the second command has released by a tick what it shares with the first, which waits for it
   abbrev pub has_cleared : ℕ → Command → Command → Bool
   has_cleared tick = let dispatch = of_cone l.cone.now in
-      dispatches.has_cleared station_of routes_in dispatch (state_at station_of routes_in dispatch tick)
+      dispatches.has_cleared station_of routes_in dispatch (pasts_at station_of routes_in dispatch tick)
 
   -- a command holds up a train before its first waiting command, of this route
   abbrev pub holds_up : ConeTrain → Command → Option RouteNo → Bool

@@ -5,7 +5,7 @@ ghost use Rattle.rail_base.specs.Routes.{IsRoute};
 ghost use Rattle.rail_base.specs.Stations.{IsTrain};
 ghost use Rattle.cone_spec.specs.Cones.{named};
 ghost use Rattle.cone_run.specs.Layouts.{AreFollowedTrainsOf, AreJourneysOf};
-ghost use Rattle.cone_run.specs.Paths.{AllGiveInCone, train_waits_in, waits_in};
+ghost use Rattle.cone_run.specs.Paths.{AllGiveInCone, AreTrainWaitsInCone, AreWaitsInCone};
 
 use crate::layout::ConeLayout;
 use crate::paths::ConePaths;
@@ -13,9 +13,8 @@ use cone_spec::Cone;
 use dispatch_run::FollowedTrain;
 use rail_base::list::List;
 use rail_base::plan::Command;
-use rail_base::state::TrainEvent;
 use rail_base::station::TrainNo;
-use rail_course::Journey;
+use rail_course::{Journey, Wait};
 use std::alloc::{AllocError, Global};
 
 /// The horizon of a train; of one that is not named it is 0.
@@ -75,9 +74,9 @@ impl ConePaths<'_> {
     }
 
     /// The waits of a command for those that are listed before it. They are among those that contend with it.
-    fn waits_of(&self, alloc: Global, command: Command) -> Result<Vec<TrainEvent>, AllocError>
+    fn waits_of(&self, alloc: Global, command: Command) -> Result<Vec<Wait>, AllocError>
         requires { IsRoute self.now.train_paths.given.interlocking.now.routes command.route }
-        ensures { IfOk result (λ w. w.items ≡ waits_in self.now command) }
+        ensures { IfOk result (λ w. AreWaitsInCone self.now command w.items) }
     {
         let contention = self.layout.contention;
         let listed = contention.sorted_pairs(self.layout.cone);
@@ -85,20 +84,17 @@ impl ConePaths<'_> {
         let mut waits = Vec::new(alloc);
         for other in &others {
             if listed.is_among(*other, command) {
-                waits.push(self.train_paths.wait_for(command, *other))?;
+                self.train_paths
+                    .push_waits(alloc, &mut waits, command, *other)?;
             }
         }
         Ok(waits)
     }
 
     /// The waits of each free command of a train.
-    fn waits_of_train(
-        &self,
-        alloc: Global,
-        train: TrainNo,
-    ) -> Result<Vec<Vec<TrainEvent>>, AllocError>
+    fn waits_of_train(&self, alloc: Global, train: TrainNo) -> Result<Vec<Vec<Wait>>, AllocError>
         requires { IsTrain self.now.train_paths.given.interlocking.now.design.station train }
-        ensures { IfOk result (λ w. map (λ v. v.items) w.items ≡ train_waits_in self.now train) }
+        ensures { IfOk result (λ w. AreTrainWaitsInCone self.now train (map (λ v. v.items) w.items)) }
     {
         let mut waits = Vec::new(alloc);
         let train_path = self.train_paths.train_path(train);
@@ -107,13 +103,14 @@ impl ConePaths<'_> {
                 train,
                 route: *route,
             };
-            waits.push(self.waits_of(alloc, command)?)?;
+            let own = self.waits_of(alloc, command)?;
+            waits.push(own)?;
         }
         Ok(waits)
     }
 
     /// For each train, in file order, the waits of each of its free commands.
-    fn waits_of_all(&self, alloc: Global) -> Result<Vec<List<Vec<TrainEvent>>>, AllocError>
+    fn waits_of_all(&self, alloc: Global) -> Result<Vec<List<Vec<Wait>>>, AllocError>
         ensures { IfOk result (λ waits. AllGiveInCone self.now waits.items) }
     {
         let mut all = Vec::new(alloc);

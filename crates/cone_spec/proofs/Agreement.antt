@@ -13,11 +13,12 @@ use Rattle.rail_base.specs.declared.state.PathNode.{PathNode}
 use Rattle.rail_base.specs.Numbering.{before_first}
 use Rattle.rail_spec.specs.Plans.{route_at, shared, release_offset, length_mm, is_route}
 use Rattle.rail_base.specs.Stations.{train_of, train_length, dwell_ticks}
-use Rattle.rail_spec.specs.Dispatches.{state_of, stretches, rates, Dispatch, routes_before, is_granted, has_released, has_cleared, is_ready, granted_with, granted_after, moved, state_at, track_end, is_at}
+use Rattle.rail_spec.specs.Dispatches.{state_of, ago, past_of, stretches, rates, Dispatch, routes_before, is_granted, has_released, has_cleared, is_ready, granted_with, granted_after, moved, pasts_at, state_at, track_end, is_at}
 use Rattle.rail_spec.specs.Motion.{next_speed}
 use Rattle.rail_spec.specs.Places.{path_nodes, visits_on, next_stop}
-use Rattle.rail_base.proofs.Members.{In, and_left, and_right, and_both, list_all_at, below_or_not, same_bool, not_less}
-use Rattle.rail_laws.proofs.Running.{Later, Moves, Idles, after_tick, run_later, granted_after_more, granted_cleared, stays, idle_at_first}
+use Rattle.rail_base.proofs.Members.{In, and_left, and_right, and_both, list_all_at, below_or_not, false_unless, same_bool, not_less}
+use Rattle.rail_laws.proofs.Running.{Later, Moves, Idles, after_tick, ago_later, happens_on, run_later, granted_after_more, granted_cleared, stays, idle_at_first}
+use Rattle.cone_spec.proofs.Releasing.{ticks_of, event_of, out, released_is, released_granted}
 use Rattle.rail_base.proofs.Lists.{list_all_from, length-map}
 
 -- ---- lists
@@ -68,7 +69,7 @@ module _ (d : Station) (routes : List Route) (p q : Dispatch) (h : TrainNo → �
     pub before : In holder (q.before (record { train = t; route = w }))
     pub shares : In section (shared (route_at routes holder.route) (route_at routes w))
     pub near : k ≤ h holder.train
-    pub unreleased : has_released d routes p (state_at d routes p k) holder section ≡ false
+    pub unreleased : has_released d routes p (pasts_at d routes p k) holder section ≡ false
 
   pub record Meeting : Type 0 where
     -- up to its horizon each tick concerns a train, and then none does; under the second dispatch each tick concerns all
@@ -92,14 +93,13 @@ module _ (d : Station) (routes : List Route) (p q : Dispatch) (h : TrainNo → �
 
   -- ---- what follows
 
-  -- up to its horizon the train is in the same state; past it the second run goes on; and no command past the prefix is granted
+  -- up to its horizon the train has been through the same; past it the second run goes on; and no command past the prefix is granted
   pub record Agree (k : ℕ) (t : TrainNo) : Type 0 where
+    pub same_past : k ≤ h t → past_of (pasts_at d routes q k) t ≡ past_of (pasts_at d routes p k) t
+    pub later_ago : (n : ℕ) → Later d routes p (ago n (past_of (pasts_at d routes p k) t)) (ago n (past_of (pasts_at d routes q k) t))
     pub same : k ≤ h t → state_of (state_at d routes q k) t ≡ state_of (state_at d routes p k) t
     pub later : Later d routes p (state_of (state_at d routes p k) t) (state_of (state_at d routes q k) t)
     pub few : (state_of (state_at d routes p k) t).granted ≤ length (p.path t)
-
-  abbrev out : Command → SectionNo → List Route → TrainState → Bool
-  out e z before s = nat_lt (length before) s.granted && nat_le (sum_by length_mm before + release_offset (route_at routes e.route) z + train_length d e.train) s.x
 
   and_false : (a b : Bool) → a ≡ false → (a && b) ≡ false
   and_false true b e = absurd (true≢false e)
@@ -107,43 +107,60 @@ module _ (d : Station) (routes : List Route) (p q : Dispatch) (h : TrainNo → �
 
   -- what is released under the first is released under the second; and where the states are the same, only that
   module _ (fits : Meeting) where
-    pub released_later : (k : ℕ) (e : Command) (z : SectionNo) → Agree k e.train → has_released d routes p (state_at d routes p k) e z ≡ true → has_released d routes q (state_at d routes q k) e z ≡ true
+    abbrev way : TrainNo → RouteNo → List RouteNo
+    way t r = before_first (λ x. is_route x r) (p.path t ++ fits.rest t)
+
+    abbrev Ways : Command → Type 0
+    Ways e = (way e.train e.route ≡ before_first (λ x. is_route x e.route) (p.path e.train)) ⊎ ((length (p.path e.train) ≤ length (way e.train e.route)) × (length (p.path e.train) ≤ length (before_first (λ x. is_route x e.route) (p.path e.train))))
+
+    before_is : (e : Command) → way e.train e.route ≡ before_first (λ x. is_route x e.route) (p.path e.train) → routes_before d routes q e ≡ routes_before d routes p e
+    before_is e i = ap (map (route_at routes)) (ap (before_first (λ x. is_route x e.route)) (fits.prefix e.train) ∙ i)
+
+    pub released_later : (k : ℕ) (e : Command) (z : SectionNo) → Agree k e.train → has_released d routes p (pasts_at d routes p k) e z ≡ true → has_released d routes q (pasts_at d routes q k) e z ≡ true
     released_later k e z a r = go (before_first-append (λ x. is_route x e.route) (p.path e.train) (fits.rest e.train))
       where
-        old : TrainState
-        old = state_of (state_at d routes p k) e.train
-
-        go : (before_first (λ x. is_route x e.route) (p.path e.train ++ fits.rest e.train) ≡ before_first (λ x. is_route x e.route) (p.path e.train)) ⊎ ((length (p.path e.train) ≤ length (before_first (λ x. is_route x e.route) (p.path e.train ++ fits.rest e.train))) × (length (p.path e.train) ≤ length (before_first (λ x. is_route x e.route) (p.path e.train))))
-            → has_released d routes q (state_at d routes q k) e z ≡ true
+        go : Ways e → has_released d routes q (pasts_at d routes q k) e z ≡ true
         go (inr (_, m)) =
-            let g = leb-true _ _ (and_left (is_granted d routes p (state_at d routes p k) e) _ r) in
+            let g = released_granted d routes p k e z r in
             let l = length-map (route_at routes) (before_first (λ x. is_route x e.route) (p.path e.train)) in
             let f = a.few in
             absurd (omega arith)
         go (inl i) =
-            let before : routes_before d routes q e ≡ routes_before d routes p e = ap (map (route_at routes)) (ap (before_first (λ x. is_route x e.route)) (fits.prefix e.train) ∙ i) in
-            let g = leb-true _ _ (and_left (is_granted d routes p (state_at d routes p k) e) _ r) in
-            let x = leb-true _ _ (and_right (is_granted d routes p (state_at d routes p k) e) _ r) in
-            let lg = a.later.granted in
-            let lx = a.later.x in
-            let way : ℕ = sum_by length_mm (routes_before d routes p e) + release_offset (route_at routes e.route) z + train_length d e.train in
-            let one : nat_lt (length (routes_before d routes p e)) (state_of (state_at d routes q k) e.train).granted ≡ true = le-leb _ _ (omega arith) in
-            let two : nat_le way (state_of (state_at d routes q k) e.train).x ≡ true = le-leb _ _ (omega arith) in
-            subst (λ rs. out e z rs (state_of (state_at d routes q k) e.train) ≡ true) (sym before) (and_both _ _ one two)
+            let first = sym (released_is d routes p (pasts_at d routes p k) e z) ∙ r in
+            let on = happens_on d routes p (ago (ticks_of d routes e z) (past_of (pasts_at d routes p k) e.train)) (ago (ticks_of d routes e z) (past_of (pasts_at d routes q k) e.train)) (event_of d routes e z (routes_before d routes p e)) (a.later_ago (ticks_of d routes e z)) first in
+            released_is d routes q (pasts_at d routes q k) e z ∙ ap (λ rs. out d routes e z rs (past_of (pasts_at d routes q k) e.train)) (before_is e i) ∙ on
 
-    pub released_same : (k : ℕ) (e : Command) (z : SectionNo) → Agree k e.train → k ≤ h e.train → has_released d routes q (state_at d routes q k) e z ≡ has_released d routes p (state_at d routes p k) e z
+    pub released_same : (k : ℕ) (e : Command) (z : SectionNo) → Agree k e.train → k ≤ h e.train → has_released d routes q (pasts_at d routes q k) e z ≡ has_released d routes p (pasts_at d routes p k) e z
     released_same k e z a n = go (before_first-append (λ x. is_route x e.route) (p.path e.train) (fits.rest e.train))
       where
-        go : (before_first (λ x. is_route x e.route) (p.path e.train ++ fits.rest e.train) ≡ before_first (λ x. is_route x e.route) (p.path e.train)) ⊎ ((length (p.path e.train) ≤ length (before_first (λ x. is_route x e.route) (p.path e.train ++ fits.rest e.train))) × (length (p.path e.train) ≤ length (before_first (λ x. is_route x e.route) (p.path e.train))))
-            → has_released d routes q (state_at d routes q k) e z ≡ has_released d routes p (state_at d routes p k) e z
-        go (inl i) = ap₂ (out e z) (ap (map (route_at routes)) (ap (before_first (λ x. is_route x e.route)) (fits.prefix e.train) ∙ i)) (a.same n)
+        unreleased : (o : Dispatch) → (state_of (state_at d routes o k) e.train).granted ≤ length (routes_before d routes o e) → has_released d routes o (pasts_at d routes o k) e z ≡ false
+        unreleased o few = false_unless _ (λ t. let l = released_granted d routes o k e z t in absurd (omega arith))
+
+        go : Ways e → has_released d routes q (pasts_at d routes q k) e z ≡ has_released d routes p (pasts_at d routes p k) e z
+        go (inl i) = released_is d routes q (pasts_at d routes q k) e z ∙ ap₂ (out d routes e z) (before_is e i) (a.same_past n) ∙ sym (released_is d routes p (pasts_at d routes p k) e z)
         go (inr (l, m)) =
             let f = a.few in
             let g : (state_of (state_at d routes q k) e.train).granted ≡ (state_of (state_at d routes p k) e.train).granted = ap (λ (s : TrainState). s.granted) (a.same n) in
             let lp = length-map (route_at routes) (before_first (λ x. is_route x e.route) (p.path e.train)) in
             let lq = length-map (route_at routes) (before_first (λ x. is_route x e.route) (q.path e.train)) in
-            let path : length (before_first (λ x. is_route x e.route) (q.path e.train)) ≡ length (before_first (λ x. is_route x e.route) (p.path e.train ++ fits.rest e.train)) = ap (λ xs. length (before_first (λ x. is_route x e.route) xs)) (fits.prefix e.train) in
-            and_false (is_granted d routes q (state_at d routes q k) e) _ (not_less _ _ (omega arith)) ∙ sym (and_false (is_granted d routes p (state_at d routes p k) e) _ (not_less _ _ (omega arith)))
+            let path : length (before_first (λ x. is_route x e.route) (q.path e.train)) ≡ length (way e.train e.route) = ap (λ xs. length (before_first (λ x. is_route x e.route) xs)) (fits.prefix e.train) in
+            unreleased q (omega arith) ∙ sym (unreleased p (omega arith))
+
+    -- past its horizon a train's past stays
+    past_stays : (k : ℕ) (t : TrainNo) → h t ≤ k → past_of (pasts_at d routes p (suc k)) t ≡ past_of (pasts_at d routes p k) t
+    past_stays k t n = elim (after_tick d routes p k t) [
+      | inl m ↦ m.past_by_rule ∙ ap (λ b. if b then moved d routes p t (state_of (state_at d routes p k) t) (granted_after d routes p (pasts_at d routes p k) t) ∷ past_of (pasts_at d routes p k) t else past_of (pasts_at d routes p k) t) (fits.left (suc k) t (omega arith))
+      | inr i ↦ i.new_past ∙ sym i.old_past
+    ]
+
+    past_stays_by : (m k : ℕ) (t : TrainNo) → h t ≤ k → past_of (pasts_at d routes p (k + m)) t ≡ past_of (pasts_at d routes p k) t
+    past_stays_by zero k t n = let z : k + 0 ≡ k = omega arith in ap (λ i. past_of (pasts_at d routes p i) t) z
+    past_stays_by (suc m) k t n =
+        let z : k + suc m ≡ suc (k + m) = omega arith in
+        ap (λ i. past_of (pasts_at d routes p i) t) z ∙ past_stays (k + m) t (omega arith) ∙ past_stays_by m k t n
+
+    pub past_stays_to : (k l : ℕ) (t : TrainNo) → h t ≤ k → k ≤ l → past_of (pasts_at d routes p l) t ≡ past_of (pasts_at d routes p k) t
+    past_stays_to k l t n m = let z : k + (l - k) ≡ l = omega arith in ap (λ i. past_of (pasts_at d routes p i) t) (sym z) ∙ past_stays_by (l - k) k t n
 
     -- past its horizon a train stays
     stays_by : (m k : ℕ) (t : TrainNo) → h t ≤ k → state_of (state_at d routes p (k + m)) t ≡ state_of (state_at d routes p k) t
@@ -155,12 +172,12 @@ module _ (d : Station) (routes : List Route) (p q : Dispatch) (h : TrainNo → �
     pub stays_to : (k l : ℕ) (t : TrainNo) → h t ≤ k → k ≤ l → state_of (state_at d routes p l) t ≡ state_of (state_at d routes p k) t
     stays_to k l t n m = let z : k + (l - k) ≡ l = omega arith in ap (λ i. state_of (state_at d routes p i) t) (sym z) ∙ stays_by (l - k) k t n
 
-    pub ready_in_second : (k : ℕ) (agree : (t : TrainNo) → Agree k t) (t : TrainNo) (r : RouteNo) → In r (p.path t) → is_ready d routes p (state_at d routes p k) (record { train = t; route = r }) ≡ true → is_ready d routes q (state_at d routes q k) (record { train = t; route = r }) ≡ true
+    pub ready_in_second : (k : ℕ) (agree : (t : TrainNo) → Agree k t) (t : TrainNo) (r : RouteNo) → In r (p.path t) → is_ready d routes p (pasts_at d routes p k) (record { train = t; route = r }) ≡ true → is_ready d routes q (pasts_at d routes q k) (record { train = t; route = r }) ≡ true
     ready_in_second k agree t r m ready =
         list_all_from _ (q.before (record { train = t; route = r })) (λ e i.
         list_all_from _ (shared (route_at routes e.route) (route_at routes r)) (λ z j.
         released_later k e z (agree e.train)
-        (list_all_at (has_released d routes p (state_at d routes p k) e) _ z (list_all_at (has_cleared d routes p (state_at d routes p k) (record { train = t; route = r })) (p.before (record { train = t; route = r })) e ready (fits.waits_for t r e m i)) j)))
+        (list_all_at (has_released d routes p (pasts_at d routes p k) e) _ z (list_all_at (has_cleared d routes p (pasts_at d routes p k) (record { train = t; route = r })) (p.before (record { train = t; route = r })) e ready (fits.waits_for t r e m i)) j)))
 
     -- ---- the moves of a tick
 
@@ -186,7 +203,7 @@ module _ (d : Station) (routes : List Route) (p q : Dispatch) (h : TrainNo → �
 
     -- ---- the claim at the next tick rests on the claim at this one alone
 
-    pub step : (k : ℕ) (agree : (t : TrainNo) → Agree k t) → ((t : TrainNo) → k < h t → (granted_after d routes q (state_at d routes q k) t ≡ granted_after d routes p (state_at d routes p k) t) × (granted_after d routes p (state_at d routes p k) t ≤ length (p.path t))) → (t : TrainNo) → Agree (suc k) t
+    pub step : (k : ℕ) (agree : (t : TrainNo) → Agree k t) → ((t : TrainNo) → k < h t → (granted_after d routes q (pasts_at d routes q k) t ≡ granted_after d routes p (pasts_at d routes p k) t) × (granted_after d routes p (pasts_at d routes p k) t ≤ length (p.path t))) → (t : TrainNo) → Agree (suc k) t
     step k agree same_grants t = go (below_or_not k (h t))
       where
         go : (k < h t) ⊎ (h t ≤ k) → Agree (suc k) t
@@ -195,17 +212,22 @@ module _ (d : Station) (routes : List Route) (p q : Dispatch) (h : TrainNo → �
             let on = run_later d routes q k t in
             let was = (agree t).later in
             record {
+              same_past = λ l. absurd (omega arith);
+              later_ago = λ n. (let a = (agree t).later_ago n in let b = ago_later d routes q k n t in
+                  subst (λ past. Later d routes p (ago n past) (ago n (past_of (pasts_at d routes q (suc k)) t))) (sym (past_stays k t past)) (record { granted = omega arith; x = omega arith }));
               same = λ l. absurd (omega arith);
               later = subst (λ s. Later d routes p s (state_of (state_at d routes q (suc k)) t)) (sym frozen) (record { granted = omega arith; x = omega arith });
               few = subst (λ (s : TrainState). s.granted ≤ length (p.path t)) (sym frozen) ((agree t).few);
             }
         go (inl near) = both (after_tick d routes p k t) (after_tick d routes q k t)
           where
-            grants : (granted_after d routes q (state_at d routes q k) t ≡ granted_after d routes p (state_at d routes p k) t) × (granted_after d routes p (state_at d routes p k) t ≤ length (p.path t))
+            grants : (granted_after d routes q (pasts_at d routes q k) t ≡ granted_after d routes p (pasts_at d routes p k) t) × (granted_after d routes p (pasts_at d routes p k) t ≤ length (p.path t))
             grants = same_grants t near
 
-            build : state_of (state_at d routes q (suc k)) t ≡ state_of (state_at d routes p (suc k)) t → (state_of (state_at d routes p (suc k)) t).granted ≤ length (p.path t) → Agree (suc k) t
-            build e f = record {
+            build : past_of (pasts_at d routes q (suc k)) t ≡ past_of (pasts_at d routes p (suc k)) t → state_of (state_at d routes q (suc k)) t ≡ state_of (state_at d routes p (suc k)) t → (state_of (state_at d routes p (suc k)) t).granted ≤ length (p.path t) → Agree (suc k) t
+            build w e f = record {
+              same_past = λ l. w;
+              later_ago = λ n. subst (λ past. Later d routes p (ago n (past_of (pasts_at d routes p (suc k)) t)) (ago n past)) (sym w) (record { granted = omega arith; x = omega arith });
               same = λ l. e;
               later = subst (Later d routes p (state_of (state_at d routes p (suc k)) t)) (sym e) (record { granted = omega arith; x = omega arith });
               few = f;
@@ -214,26 +236,35 @@ module _ (d : Station) (routes : List Route) (p q : Dispatch) (h : TrainNo → �
             both : Moves d routes p k t ⊎ Idles d routes p k t → Moves d routes q k t ⊎ Idles d routes q k t → Agree (suc k) t
             both (inl m) (inr i) = let a = m.first in let b = m.last in let c = i.out a in absurd (omega arith)
             both (inr i) (inl m) = let a = m.first in let b = m.last in let c = i.out a in absurd (omega arith)
-            both (inr i) (inr j) = build (j.new ∙ sym i.new) (subst (λ (s : TrainState). s.granted ≤ length (p.path t)) (sym i.new) (omega arith))
-            both (inl m) (inl n) = build (in_q ∙ state ∙ sym in_p) (subst (λ (s : TrainState). s.granted ≤ length (p.path t)) (sym in_p) few)
+            both (inr i) (inr j) = build (j.new_past ∙ sym i.new_past) (j.new ∙ sym i.new) (subst (λ (s : TrainState). s.granted ≤ length (p.path t)) (sym i.new) (omega arith))
+            both (inl m) (inl n) = build (past_in_q ∙ ap₂ (λ (s : TrainState) (past : List TrainState). s ∷ past) state ((agree t).same_past (omega arith)) ∙ sym past_in_p) (in_q ∙ state ∙ sym in_p) (subst (λ (s : TrainState). s.granted ≤ length (p.path t)) (sym in_p) few)
               where
-                in_p : state_of (state_at d routes p (suc k)) t ≡ moved d routes p t (state_of (state_at d routes p k) t) (granted_after d routes p (state_at d routes p k) t)
-                in_p = m.by_rule ∙ ap (λ b. if b then moved d routes p t (state_of (state_at d routes p k) t) (granted_after d routes p (state_at d routes p k) t) else state_of (state_at d routes p k) t) (fits.concerned (suc k) t near)
+                in_p : state_of (state_at d routes p (suc k)) t ≡ moved d routes p t (state_of (state_at d routes p k) t) (granted_after d routes p (pasts_at d routes p k) t)
+                in_p = m.by_rule ∙ ap (λ b. if b then moved d routes p t (state_of (state_at d routes p k) t) (granted_after d routes p (pasts_at d routes p k) t) else state_of (state_at d routes p k) t) (fits.concerned (suc k) t near)
 
-                in_q : state_of (state_at d routes q (suc k)) t ≡ moved d routes q t (state_of (state_at d routes q k) t) (granted_after d routes q (state_at d routes q k) t)
-                in_q = n.by_rule ∙ ap (λ b. if b then moved d routes q t (state_of (state_at d routes q k) t) (granted_after d routes q (state_at d routes q k) t) else state_of (state_at d routes q k) t) (fits.always (suc k) t)
+                in_q : state_of (state_at d routes q (suc k)) t ≡ moved d routes q t (state_of (state_at d routes q k) t) (granted_after d routes q (pasts_at d routes q k) t)
+                in_q = n.by_rule ∙ ap (λ b. if b then moved d routes q t (state_of (state_at d routes q k) t) (granted_after d routes q (pasts_at d routes q k) t) else state_of (state_at d routes q k) t) (fits.always (suc k) t)
 
-                state : moved d routes q t (state_of (state_at d routes q k) t) (granted_after d routes q (state_at d routes q k) t) ≡ moved d routes p t (state_of (state_at d routes p k) t) (granted_after d routes p (state_at d routes p k) t)
-                state = ap₂ (moved d routes q t) ((agree t).same (omega arith)) grants.0 ∙ moved_same t (state_of (state_at d routes p k) t) (granted_after d routes p (state_at d routes p k) t) grants.1
+                past_in_p : past_of (pasts_at d routes p (suc k)) t ≡ moved d routes p t (state_of (state_at d routes p k) t) (granted_after d routes p (pasts_at d routes p k) t) ∷ past_of (pasts_at d routes p k) t
+                past_in_p = m.past_by_rule ∙ ap (λ b. if b then moved d routes p t (state_of (state_at d routes p k) t) (granted_after d routes p (pasts_at d routes p k) t) ∷ past_of (pasts_at d routes p k) t else past_of (pasts_at d routes p k) t) (fits.concerned (suc k) t near)
 
-                few : (moved d routes p t (state_of (state_at d routes p k) t) (granted_after d routes p (state_at d routes p k) t)).granted ≤ length (p.path t)
-                few = let l = moved_granted t (state_of (state_at d routes p k) t) _ (granted_after_more d routes p (state_at d routes p k) t) in let g = grants.1 in omega arith
+                past_in_q : past_of (pasts_at d routes q (suc k)) t ≡ moved d routes q t (state_of (state_at d routes q k) t) (granted_after d routes q (pasts_at d routes q k) t) ∷ past_of (pasts_at d routes q k) t
+                past_in_q = n.past_by_rule ∙ ap (λ b. if b then moved d routes q t (state_of (state_at d routes q k) t) (granted_after d routes q (pasts_at d routes q k) t) ∷ past_of (pasts_at d routes q k) t else past_of (pasts_at d routes q k) t) (fits.always (suc k) t)
+
+                state : moved d routes q t (state_of (state_at d routes q k) t) (granted_after d routes q (pasts_at d routes q k) t) ≡ moved d routes p t (state_of (state_at d routes p k) t) (granted_after d routes p (pasts_at d routes p k) t)
+                state = ap₂ (moved d routes q t) ((agree t).same (omega arith)) grants.0 ∙ moved_same t (state_of (state_at d routes p k) t) (granted_after d routes p (pasts_at d routes p k) t) grants.1
+
+                few : (moved d routes p t (state_of (state_at d routes p k) t) (granted_after d routes p (pasts_at d routes p k) t)).granted ≤ length (p.path t)
+                few = let l = moved_granted t (state_of (state_at d routes p k) t) _ (granted_after_more d routes p (pasts_at d routes p k) t) in let g = grants.1 in omega arith
 
     pub at_first : (t : TrainNo) → Agree zero t
     at_first t =
         let a = idle_at_first d routes p t in
         let b = idle_at_first d routes q t in
+        let same : past_of (pasts_at d routes q zero) t ≡ past_of (pasts_at d routes p zero) t = refl in
         record {
+          same_past = λ l. same;
+          later_ago = λ n. record { granted = omega arith; x = omega arith };
           same = λ l. b ∙ sym a;
           later = subst (Later d routes p (state_of (state_at d routes p zero) t)) (a ∙ sym b) (record { granted = omega arith; x = omega arith });
           few = subst (λ (s : TrainState). s.granted ≤ length (p.path t)) (sym a) (omega arith);
@@ -244,7 +275,7 @@ module _ (d : Station) (routes : List Route) (p q : Dispatch) (h : TrainNo → �
 
     module _ (k : ℕ) (agree : (t : TrainNo) → Agree k t) where
       -- a command of the prefix that is ready under the second is so under the first, since it is granted there in the end
-      ready_in_first : (t : TrainNo) (r : RouteNo) → k ≤ h t → In r (p.path t) → is_ready d routes q (state_at d routes q k) (record { train = t; route = r }) ≡ true → is_ready d routes p (state_at d routes p k) (record { train = t; route = r }) ≡ true
+      ready_in_first : (t : TrainNo) (r : RouteNo) → k ≤ h t → In r (p.path t) → is_ready d routes q (pasts_at d routes q k) (record { train = t; route = r }) ≡ true → is_ready d routes p (pasts_at d routes p k) (record { train = t; route = r }) ≡ true
       ready_in_first t r near m ready =
           list_all_from _ (p.before (record { train = t; route = r })) (λ e i.
           list_all_from _ (shared (route_at routes e.route) (route_at routes r)) (λ z j. go e z i j (below_or_not (h e.train) k)))
@@ -259,17 +290,17 @@ module _ (d : Station) (routes : List Route) (p q : Dispatch) (h : TrainNo → �
               let g = fits.all_granted t in
               le-leb _ _ (omega arith)
 
-          go : (e : Command) (z : SectionNo) → In e (p.before (record { train = t; route = r })) → In z (shared (route_at routes e.route) (route_at routes r)) → (h e.train < k) ⊎ (k ≤ h e.train) → has_released d routes p (state_at d routes p k) e z ≡ true
+          go : (e : Command) (z : SectionNo) → In e (p.before (record { train = t; route = r })) → In z (shared (route_at routes e.route) (route_at routes r)) → (h e.train < k) ⊎ (k ≤ h e.train) → has_released d routes p (pasts_at d routes p k) e z ≡ true
           go e z i j (inr n) =
               sym (released_same fits.meeting k e z (agree e.train) n) ∙
-              list_all_at (has_released d routes q (state_at d routes q k) e) _ z (list_all_at (has_cleared d routes q (state_at d routes q k) (record { train = t; route = r })) (q.before (record { train = t; route = r })) e ready (fits.waits_too t r e m i)) j
+              list_all_at (has_released d routes q (pasts_at d routes q k) e) _ z (list_all_at (has_cleared d routes q (pasts_at d routes q k) (record { train = t; route = r })) (q.before (record { train = t; route = r })) e ready (fits.waits_too t r e m i)) j
           go e z i j (inl n) =
               let cleared = granted_cleared d routes p (h t) (record { train = t; route = r }) in_end in
-              ap (out e z (routes_before d routes p e)) (sym (stays_to fits.meeting k (h t) e.train (omega arith) near)) ∙ cleared.each e z i j
+              released_is d routes p (pasts_at d routes p k) e z ∙ ap (out d routes e z (routes_before d routes p e)) (sym (past_stays_to fits.meeting k (h t) e.train (omega arith) near)) ∙ sym (released_is d routes p (pasts_at d routes p (h t)) e z) ∙ cleared.each e z i j
 
       -- ---- the grants of a tick
 
-      granted_same : (t : TrainNo) → k < h t → (granted_after d routes q (state_at d routes q k) t ≡ granted_after d routes p (state_at d routes p k) t) × (granted_after d routes p (state_at d routes p k) t ≤ length (p.path t))
+      granted_same : (t : TrainNo) → k < h t → (granted_after d routes q (pasts_at d routes q k) t ≡ granted_after d routes p (pasts_at d routes p k) t) × (granted_after d routes p (pasts_at d routes p k) t ≤ length (p.path t))
       granted_same t near = go (below_or_not (state_of (state_at d routes p k) t).granted (length (p.path t)))
         where
           state : state_of (state_at d routes q k) t ≡ state_of (state_at d routes p k) t
@@ -282,37 +313,37 @@ module _ (d : Station) (routes : List Route) (p q : Dispatch) (h : TrainNo → �
           one_more true g n l = omega arith
           one_more false g n l = omega arith
 
-          at_end : (o : Option RouteNo) → slice_get (q.path t) (length (p.path t)) ≡ o → (state_of (state_at d routes p k) t).granted ≡ length (p.path t) → granted_with d routes q (state_at d routes q k) t o ≡ (state_of (state_at d routes q k) t).granted
+          at_end : (o : Option RouteNo) → slice_get (q.path t) (length (p.path t)) ≡ o → (state_of (state_at d routes p k) t).granted ≡ length (p.path t) → granted_with d routes q (pasts_at d routes q k) t o ≡ (state_of (state_at d routes q k) t).granted
           at_end None e g = refl
           at_end (Some w) e g =
               let holder_fits = fits.holder_fits t w k near e g in
-              let out_of : has_released d routes q (state_at d routes q k) holder_fits.holder holder_fits.section ≡ false = released_same fits.meeting k holder_fits.holder holder_fits.section (agree holder_fits.holder.train) holder_fits.near ∙ holder_fits.unreleased in
-              ap (λ b. if b then (state_of (state_at d routes q k) t).granted + 1 else (state_of (state_at d routes q k) t).granted) (waiting holder_fits out_of (is_ready d routes q (state_at d routes q k) (record { train = t; route = w })) refl)
+              let out_of : has_released d routes q (pasts_at d routes q k) holder_fits.holder holder_fits.section ≡ false = released_same fits.meeting k holder_fits.holder holder_fits.section (agree holder_fits.holder.train) holder_fits.near ∙ holder_fits.unreleased in
+              ap (λ b. if b then (state_of (state_at d routes q k) t).granted + 1 else (state_of (state_at d routes q k) t).granted) (waiting holder_fits out_of (is_ready d routes q (pasts_at d routes q k) (record { train = t; route = w })) refl)
             where
-              waiting : (x : Held k t w) → has_released d routes q (state_at d routes q k) x.holder x.section ≡ false → (b : Bool) → is_ready d routes q (state_at d routes q k) (record { train = t; route = w }) ≡ b → is_ready d routes q (state_at d routes q k) (record { train = t; route = w }) ≡ false
+              waiting : (x : Held k t w) → has_released d routes q (pasts_at d routes q k) x.holder x.section ≡ false → (b : Bool) → is_ready d routes q (pasts_at d routes q k) (record { train = t; route = w }) ≡ b → is_ready d routes q (pasts_at d routes q k) (record { train = t; route = w }) ≡ false
               waiting x isnt false r = r
-              waiting x isnt true r = absurd (true≢false (sym (list_all_at (has_released d routes q (state_at d routes q k) x.holder) _ x.section (list_all_at (has_cleared d routes q (state_at d routes q k) (record { train = t; route = w })) (q.before (record { train = t; route = w })) x.holder r x.before) x.shares) ∙ isnt))
+              waiting x isnt true r = absurd (true≢false (sym (list_all_at (has_released d routes q (pasts_at d routes q k) x.holder) _ x.section (list_all_at (has_cleared d routes q (pasts_at d routes q k) (record { train = t; route = w })) (q.before (record { train = t; route = w })) x.holder r x.before) x.shares) ∙ isnt))
 
           go : ((state_of (state_at d routes p k) t).granted < length (p.path t)) ⊎ (length (p.path t) ≤ (state_of (state_at d routes p k) t).granted)
-              → (granted_after d routes q (state_at d routes q k) t ≡ granted_after d routes p (state_at d routes p k) t) × (granted_after d routes p (state_at d routes p k) t ≤ length (p.path t))
+              → (granted_after d routes q (pasts_at d routes q k) t ≡ granted_after d routes p (pasts_at d routes p k) t) × (granted_after d routes p (pasts_at d routes p k) t ≤ length (p.path t))
           go (inl l) = found (at_place (p.path t) (state_of (state_at d routes p k) t).granted l)
             where
-              found : ((r : RouteNo) × (slice_get (p.path t) (state_of (state_at d routes p k) t).granted ≡ Some r) × In r (p.path t)) → (granted_after d routes q (state_at d routes q k) t ≡ granted_after d routes p (state_at d routes p k) t) × (granted_after d routes p (state_at d routes p k) t ≤ length (p.path t))
+              found : ((r : RouteNo) × (slice_get (p.path t) (state_of (state_at d routes p k) t).granted ≡ Some r) × In r (p.path t)) → (granted_after d routes q (pasts_at d routes q k) t ≡ granted_after d routes p (pasts_at d routes p k) t) × (granted_after d routes p (pasts_at d routes p k) t ≤ length (p.path t))
               found (r, e, m) =
-                  let in_p : granted_after d routes p (state_at d routes p k) t ≡ granted_with d routes p (state_at d routes p k) t (Some r) = ap (granted_with d routes p (state_at d routes p k) t) e in
-                  let in_q : granted_after d routes q (state_at d routes q k) t ≡ granted_with d routes q (state_at d routes q k) t (Some r) =
-                  ap (granted_with d routes q (state_at d routes q k) t) (ap₂ slice_get (fits.prefix t) granted ∙ slice_get-append (p.path t) (fits.rest t) _ l ∙ e) in
-                  let ready : is_ready d routes q (state_at d routes q k) (record { train = t; route = r }) ≡ is_ready d routes p (state_at d routes p k) (record { train = t; route = r }) =
+                  let in_p : granted_after d routes p (pasts_at d routes p k) t ≡ granted_with d routes p (pasts_at d routes p k) t (Some r) = ap (granted_with d routes p (pasts_at d routes p k) t) e in
+                  let in_q : granted_after d routes q (pasts_at d routes q k) t ≡ granted_with d routes q (pasts_at d routes q k) t (Some r) =
+                  ap (granted_with d routes q (pasts_at d routes q k) t) (ap₂ slice_get (fits.prefix t) granted ∙ slice_get-append (p.path t) (fits.rest t) _ l ∙ e) in
+                  let ready : is_ready d routes q (pasts_at d routes q k) (record { train = t; route = r }) ≡ is_ready d routes p (pasts_at d routes p k) (record { train = t; route = r }) =
                   same_bool _ _ (ready_in_first t r (omega arith) m) (ready_in_second fits.meeting k agree t r m) in (
                     in_q ∙ ap₂ (λ (b : Bool) g. if b then g + 1 else g) ready granted ∙ sym in_p,
-                    subst (λ n. n ≤ length (p.path t)) (sym in_p) (one_more (is_ready d routes p (state_at d routes p k) (record { train = t; route = r })) _ _ l),
+                    subst (λ n. n ≤ length (p.path t)) (sym in_p) (one_more (is_ready d routes p (pasts_at d routes p k) (record { train = t; route = r })) _ _ l),
                   )
           go (inr l) =
               let few = (agree t).few in
               let full : (state_of (state_at d routes p k) t).granted ≡ length (p.path t) = omega arith in
-              let in_p : granted_after d routes p (state_at d routes p k) t ≡ (state_of (state_at d routes p k) t).granted = ap (granted_with d routes p (state_at d routes p k) t) (slice_get-end (p.path t) _ l) in
-              let in_q : granted_after d routes q (state_at d routes q k) t ≡ (state_of (state_at d routes q k) t).granted =
-              ap (λ g. granted_with d routes q (state_at d routes q k) t (slice_get (q.path t) g)) (granted ∙ full) ∙ at_end (slice_get (q.path t) (length (p.path t))) refl full in
+              let in_p : granted_after d routes p (pasts_at d routes p k) t ≡ (state_of (state_at d routes p k) t).granted = ap (granted_with d routes p (pasts_at d routes p k) t) (slice_get-end (p.path t) _ l) in
+              let in_q : granted_after d routes q (pasts_at d routes q k) t ≡ (state_of (state_at d routes q k) t).granted =
+              ap (λ g. granted_with d routes q (pasts_at d routes q k) t (slice_get (q.path t) g)) (granted ∙ full) ∙ at_end (slice_get (q.path t) (length (p.path t))) refl full in
               (in_q ∙ granted ∙ sym in_p, omega arith)
 
     -- the two runs agree at every tick

@@ -14,7 +14,7 @@ use Rattle.rail_spec.specs.Plans.{route_at, is_train, is_start, goes_on, end_at_
 use Rattle.rail_base.specs.Members.{all_pairs, all_neighbors}
 use Rattle.rail_base.specs.Stations.{first_visit, trains, train_of}
 use Rattle.rail_spec.specs.Feasible.{is_of, names_only}
-use Rattle.rail_spec.specs.Dispatches.{state_of, state_at, has_released}
+use Rattle.rail_spec.specs.Dispatches.{state_of, pasts_at, state_at, has_released}
 use Rattle.rail_base.proofs.Members.{In, and_left, and_right, and_both, list_all_at, list_any_gives, in_filter, is_false, not_less}
 use Rattle.rail_spec.specs.Dispatches.{of_plan}
 use Rattle.cone_spec.specs.Cones.{unnamed, named, free_path, all_free, has_route, is_named, is_free, has_pair, of_cone}
@@ -202,10 +202,10 @@ module _ (d : Station) (routes : List Route) (n : ℕ) (k : Cone) (plan : List (
     abbrev HeldUp : ℕ → TrainNo → RouteNo → Type 0
     HeldUp tick t w = Held d routes (of_cone k) (of_plan routes plan) (λ t. (named k t).horizon) tick t w
 
-    unreleased_before : (tick later : ℕ) (e : Command) (z : SectionNo) → tick ≤ later → has_released d routes (of_cone k) (state_at d routes (of_cone k) later) e z ≡ false → has_released d routes (of_cone k) (state_at d routes (of_cone k) tick) e z ≡ false
-    unreleased_before tick later e z l h = go (has_released d routes (of_cone k) (state_at d routes (of_cone k) tick) e z) refl
+    unreleased_before : (tick later : ℕ) (e : Command) (z : SectionNo) → tick ≤ later → has_released d routes (of_cone k) (pasts_at d routes (of_cone k) later) e z ≡ false → has_released d routes (of_cone k) (pasts_at d routes (of_cone k) tick) e z ≡ false
+    unreleased_before tick later e z l h = go (has_released d routes (of_cone k) (pasts_at d routes (of_cone k) tick) e z) refl
       where
-        go : (b : Bool) → has_released d routes (of_cone k) (state_at d routes (of_cone k) tick) e z ≡ b → has_released d routes (of_cone k) (state_at d routes (of_cone k) tick) e z ≡ false
+        go : (b : Bool) → has_released d routes (of_cone k) (pasts_at d routes (of_cone k) tick) e z ≡ b → has_released d routes (of_cone k) (pasts_at d routes (of_cone k) tick) e z ≡ false
         go false r = r
         go true r = absurd (true≢false (sym (released_up_to d routes (of_cone k) tick later e z l r) ∙ h))
 
@@ -221,7 +221,7 @@ module _ (d : Station) (routes : List Route) (n : ℕ) (k : Cone) (plan : List (
         near : (named k t).horizon ≤ (named k e.train).horizon + 1
         near = leb-true _ _ (and_right (has_pair k e (record { train = (named k t).train; route = w })) _ ab)
 
-        go : (z : SectionNo) × In z (shared (route_at routes e.route) (route_at routes w)) × (not (has_released d routes (of_cone k) (state_at d routes (of_cone k) ((named k t).horizon - 1)) e z) ≡ true) → HeldUp tick t w
+        go : (z : SectionNo) × In z (shared (route_at routes e.route) (route_at routes w)) × (not (has_released d routes (of_cone k) (pasts_at d routes (of_cone k) ((named k t).horizon - 1)) e z) ≡ true) → HeldUp tick t w
         go (z, m, r) = record {
           holder = e;
           section = z;

@@ -1,4 +1,5 @@
 mod Rows
+pub mod Releasing
 pub mod Agreement
 pub mod Orderly
 pub mod Prefixes

@@ -21,7 +21,7 @@ use Rattle.rail_base.specs.Members.{all_pairs, all_neighbors}
 use Rattle.rail_base.specs.Admission.{is_from, is_visit}
 use Rattle.rail_base.specs.Stations.{train_of, horizon, within_of, order_of}
 use Rattle.rail_spec.specs.Visits.{visit_tick}
-use Rattle.rail_spec.specs.Dispatches.{state_of, state_at, has_released}
+use Rattle.rail_spec.specs.Dispatches.{state_of, pasts_at, state_at, has_released}
 use Rattle.rail_spec.specs.Requirements.{most_ticks}
 use Rattle.rail_spec.specs.Places.{path_nodes, visits_on}
 use Rattle.cone_spec.specs.Cones.{named, all_free, is_named, has_pair, of_cone}
@@ -120,10 +120,10 @@ module _ (d : Station) (routes : List Route) (k : Cone) where
   holds_up c h None = false
   holds_up c h (Some w) =
       let waiting : Command = record { train = c.train; route = w } in
-      let states = state_at d routes (of_cone k) (c.horizon - 1) in
+      let pasts = pasts_at d routes (of_cone k) (c.horizon - 1) in
       let sections = shared (route_at routes h.route) (route_at routes w) in
       has_pair k h waiting && nat_le c.horizon ((named k h.train).horizon + 1)
-      && list_any (λ z. not (has_released d routes (of_cone k) states h z)) sections
+      && list_any (λ z. not (has_released d routes (of_cone k) pasts h z)) sections
 
   -- a train with a waiting command has a holder exactly where it is needed, and any other train has none
   abbrev pub holder_needed : ConeTrain → Bool

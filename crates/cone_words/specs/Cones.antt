@@ -1,15 +1,16 @@
 -- Cones in sentences.
-use Rattle.std.specs.Prelude.{ℕ, Bool, true, false, ◌||◌, if◌then◌else◌, nat_le, List, [], ◌∷◌, ◌++◌, map, codes, decimal}
+use Rattle.std.specs.Prelude.{ℕ, Bool, true, false, ◌||◌, if◌then◌else◌, nat_le, List, [], ◌∷◌, ◌++◌, map, filter, codes, decimal}
 use Rattle.std.specs.Prelude.{Option, None, Some}
 use Rattle.std.specs.List.{flat_map, list_any}
 use Rattle.rail_base.specs.declared.station.Station.{Station}
 use Rattle.rail_base.specs.declared.station.SectionNo.{SectionNo}
 use Rattle.rail_base.specs.declared.station.TrainNo.{TrainNo}
 use Rattle.rail_base.specs.declared.route.Route.{Route}
+use Rattle.rail_base.specs.declared.route.OverlapSection.{OverlapSection}
 use Rattle.rail_base.specs.declared.plan.Command.{Command}
 use Rattle.rail_base.specs.declared.plan.Violation.{Violation}
 use Rattle.rail_base.specs.declared.plan.Violation.TheVariants as violation
-use Rattle.rail_base.specs.Routes.{route_at, shared}
+use Rattle.rail_base.specs.Routes.{has_section, held_sections, own_shared, route_at}
 use Rattle.rail_base.specs.Stations.{horizon, order_of, within_of}
 use Rattle.rail_spec.specs.Requirements.{most_ticks}
 use Rattle.cone_spec.specs.declared.Cone.{Cone}
@@ -33,11 +34,17 @@ sections_text d zs = joined (codes ", ") (section_name d) zs
 
 -- ---- what is so
 
+-- `leave`, or `release` for a route with an overlap, whose sections are held when the train has left the others
+abbrev pub leave_word : List OverlapSection → List ℕ
+leave_word [] = codes "leave"
+leave_word (p ∷ ps) = codes "release"
+
 -- the command that holds up the first one that waits, if there is one
 abbrev pub holder_text : Station → List Route → Option Command → List ℕ
 holder_text d routes None = []
 holder_text d routes (Some h) =
-    codes ", and the next one waits for " ++ train_name d h.train ++ codes " to leave route " ++ route_text d routes h.route
+    codes ", and the next one waits for " ++ train_name d h.train ++ codes " to "
+    ++ leave_word (route_at routes h.route).overlaps ++ codes " route " ++ route_text d routes h.route
 
 -- a train: up to which tick it is followed, and its path
 abbrev pub followed_text : Station → List Route → ConeTrain → List ℕ
@@ -71,12 +78,35 @@ abbrev pub end_sentences : Station → ℕ → Cone → ConeTrain → List (List
 end_sentences d n k c =
     if goes_no_further k c then sentence n (end_text d c.train) ∷ [] else []
 
--- a pair: the second command waits until the first one's route is left where the two share sections
+-- sections that a train goes over are left
+abbrev pub left_text : Station → List SectionNo → List ℕ
+left_text d own = codes "has left " ++ sections_text d own
+
+-- sections of an overlap are released
+abbrev pub released_text : Station → List SectionNo → List ℕ
+released_text d held = codes "has released " ++ sections_text d held
+
+-- `has left z4, z5`, `has released z6`, or both
+abbrev pub cleared_text : Station → List SectionNo → List SectionNo → List ℕ
+cleared_text d own [] = left_text d own
+cleared_text d [] (z ∷ held) = released_text d (z ∷ held)
+cleared_text d (y ∷ own) (z ∷ held) = left_text d (y ∷ own) ++ codes " and " ++ released_text d (z ∷ held)
+
+-- the sections of the overlap at the first route's end that the second has too
+abbrev pub held_shared : Route → Route → List SectionNo
+held_shared r q = filter (has_section q) (held_sections r)
+
+-- a train has left or released each section of its route that the other route has too
+abbrev pub cleared_of : Station → List Route → RouteNo → RouteNo → List ℕ
+cleared_of d routes r q = let route = route_at routes r in let other = route_at routes q in
+    cleared_text d (own_shared route other) (held_shared route other)
+
+-- a pair: the second command waits until the first one's train has left or released the sections that the two share
 abbrev pub pair_text : Station → List Route → Command × Command → List ℕ
 pair_text d routes p =
     train_name d p.1.train ++ codes " is granted route " ++ route_text d routes p.1.route ++ codes " only after "
-    ++ train_name d p.0.train ++ codes ", by route " ++ route_text d routes p.0.route ++ codes ", has left "
-    ++ sections_text d (shared (route_at routes p.0.route) (route_at routes p.1.route))
+    ++ train_name d p.0.train ++ codes ", by route " ++ route_text d routes p.0.route ++ codes ", "
+    ++ cleared_of d routes p.0.route p.1.route
 
 -- a command of the train is granted
 abbrev pub is_granted_some : ConeTrain → Bool
@@ -149,6 +179,6 @@ within_text d w = failure_text d (violation.Within w)
 abbrev pub ungranted_text : Station → TrainNo → ℕ → List ℕ
 ungranted_text d t j = failure_text d (violation.Grant t j)
 
--- the sections that two routes share
-abbrev pub shared_text : Station → List Route → RouteNo → RouteNo → List ℕ
-shared_text d routes r q = sections_text d (shared (route_at routes r) (route_at routes q))
+-- the sections that the first route goes over and the second has too
+abbrev pub own_text : Station → List Route → RouteNo → RouteNo → List ℕ
+own_text d routes r q = sections_text d (own_shared (route_at routes r) (route_at routes q))

@@ -10,7 +10,7 @@ use Rattle.rail_base.specs.declared.route.Start.TheVariants as start
 use Rattle.rail_base.specs.declared.station.SectionNo.{SectionNo}
 use Rattle.rail_base.specs.declared.station.Station.{Station}
 use Rattle.rail_base.specs.Names.{node_name, section_name, signal_name}
-use Rattle.rail_base.specs.Routes.{has_section, route_at, sections}
+use Rattle.rail_base.specs.Routes.{goes_over, own_sections, route_at}
 use Rattle.rail_spec.specs.Plans.{is_start}
 use Rattle.cone_words.specs.Phrases.{joined}
 
@@ -41,9 +41,9 @@ is_finish (finish.DeadEnd m) (finish.DeadEnd n) = m.0 == n.0
 abbrev pub is_twin : Route → Route → Bool
 is_twin r q = is_start r.start q.start && is_finish r.finish q.finish
 
--- of the routes that start and end as this one does, some one has not the section
+-- of the routes that start and end as this one does, some one does not go over the section
 abbrev pub tells_apart : List Route → Route → SectionNo → Bool
-tells_apart routes r z = list_any (λ q. is_twin r q && not (has_section q z)) routes
+tells_apart routes r z = list_any (λ q. is_twin r q && not (goes_over q z)) routes
 
 -- ` by z2`
 abbrev pub by_text : Station → Option SectionNo → List ℕ
@@ -53,7 +53,7 @@ by_text d (Some z) = codes " by " ++ section_name d z
 module _ (d : Station) (routes : List Route) where
   -- ` by z2`: where others start and end as this one does, the first section in which they differ
   abbrev pub way_text : Route → List ℕ
-  way_text r = by_text d (find (tells_apart routes r) (sections r))
+  way_text r = by_text d (find (tells_apart routes r) (own_sections r))
 
   -- where it starts and ends
   abbrev pub ends_text : Route → List ℕ

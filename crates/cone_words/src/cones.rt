@@ -4,7 +4,7 @@ ghost use Rattle.std.specs.Prelude.{◌≡◌, ◌++◌, ◌∷◌, [], IfOk, On
 ghost use Rattle.std.specs.List.{list_any};
 ghost use Rattle.rail_outside.specs.Lines.{lines_of};
 ghost use Rattle.rail_base.specs.declared.plan.Violation.TheVariants as violation;
-ghost use Rattle.cone_words.specs.Cones.{followed_text, opening_line, holder_text, train_text, pair_text};
+ghost use Rattle.cone_words.specs.Cones.{followed_text, opening_line, holder_text, leave_word, train_text, pair_text};
 ghost use Rattle.cone_words.specs.Cones.{parts_sentences, missed_text, by_horizon_text, failure_text, cone_sentences};
 ghost use Rattle.cone_words.specs.Cones.{train_sentences, trains_sentences, pairs_sentences, order_sentences};
 ghost use Rattle.cone_words.specs.Phrases.{sentence};
@@ -13,8 +13,8 @@ ghost use Rattle.cone_words.specs.Cones.{within_text, ungranted_text};
 ghost use Rattle.rail_text.specs.Added.{AddsLines, AddsText};
 ghost use Rattle.interlocking.specs.Plans.{on};
 
-use crate::entries::{order_of, within_of};
-use crate::phrases::{most_ticks, put_makes, put_nodes, put_shared};
+use crate::entries::{order_of, overlaps_of, within_of};
+use crate::phrases::{most_ticks, put_cleared, put_makes, put_nodes};
 use crate::routes::{put_path, put_route};
 use crate::sentences::push_sentence;
 use crate::stops::push_stops;
@@ -24,6 +24,7 @@ use interlocking::Interlocking;
 use rail_base::design::Design;
 use rail_base::names::train_name;
 use rail_base::plan::{Command, Violation};
+use rail_base::route::OverlapSection;
 use rail_base::station::TrainNo;
 use rail_text::put_number;
 use std::alloc::{AllocError, Global};
@@ -79,6 +80,17 @@ pub fn push_cone(
     push_sentence(alloc, lines, line, &text)
 }
 
+/// What a train is to do until all sections of a route are free, by those of the overlap at its end.
+fn leave_word(held: &[OverlapSection]) -> &'static [u8]
+    ensures { result.now ≡ leave_word held.now }
+{
+    if held.is_empty() {
+        b"leave"
+    } else {
+        b"release"
+    }
+}
+
 /// Appends what holds up the first command that waits.
 fn put_holder(
     text: &mut Vec<u8>,
@@ -92,7 +104,9 @@ fn put_holder(
         Some(command) => {
             text.extend_from_slice(b", and the next one waits for ")?;
             text.extend_from_slice(train_name(&interlocking.design, command.train))?;
-            text.extend_from_slice(b" to leave route ")?;
+            text.extend_from_slice(b" to ")?;
+            text.extend_from_slice(leave_word(overlaps_of(&interlocking.routes, command.route)))?;
+            text.extend_from_slice(b" route ")?;
             put_route(text, interlocking, command.route)?;
             Ok(())
         }
@@ -150,8 +164,8 @@ fn pair_text(
     text.extend_from_slice(train_name(design, first.train))?;
     text.extend_from_slice(b", by route ")?;
     put_route(&mut text, interlocking, first.route)?;
-    text.extend_from_slice(b", has left ")?;
-    put_shared(
+    text.extend_from_slice(b", ")?;
+    put_cleared(
         alloc,
         &mut text,
         design,

@@ -7,7 +7,7 @@ ghost use Rattle.cone_words.specs.Names.{nodes_of_visit};
 
 use rail_base::design::Design;
 use rail_base::names::entry;
-use rail_base::route::{RouteNo, RouteTable};
+use rail_base::route::{OverlapSection, RouteNo, RouteTable};
 use rail_base::station::{NodeNo, Order, SectionNo, TrainNo, Within};
 
 /// The nodes of a visit of a train.
@@ -54,7 +54,7 @@ pub fn order_of(design: &Design, number: u32) -> Order
     }
 }
 
-/// The sections of a route, with their release offsets.
+/// The sections that a route goes over, with their release offsets.
 pub fn sections_of(routes: &RouteTable, route: RouteNo) -> &[(SectionNo, i64)]
     ensures { result.now ≡ (route_at routes.now route).sections }
 {
@@ -64,11 +64,22 @@ pub fn sections_of(routes: &RouteTable, route: RouteNo) -> &[(SectionNo, i64)]
     }
 }
 
-/// Whether a route goes over a section.
+/// The sections of the overlap at its end.
+pub fn overlaps_of(routes: &RouteTable, route: RouteNo) -> &[OverlapSection]
+    ensures { result.now ≡ (route_at routes.now route).overlaps }
+{
+    match entry(routes.as_slice(), route.0 as usize) {
+        Some(route) => route.overlaps.as_slice(),
+        None => &[],
+    }
+}
+
+/// Whether a route has a section, as its own or of the overlap at its end.
 pub fn has_section(routes: &RouteTable, route: RouteNo, section: SectionNo) -> bool
     ensures { result ≡ has_section (route_at routes.now route) section }
 {
-    sections_of(routes, route)
-        .iter()
-        .any(|part| part.0.0 == section.0)
+    match entry(routes.as_slice(), route.0 as usize) {
+        Some(route) => route.has_section(section),
+        None => false,
+    }
 }

@@ -1,7 +1,7 @@
 //! Routes by where they start and end. An error is want of memory; then a part of what is appended may stand there.
 
 ghost use Rattle.std.specs.Prelude.{◌≡◌, ◌++◌, find, OnOk};
-ghost use Rattle.rail_base.specs.Routes.{sections};
+ghost use Rattle.rail_base.specs.Routes.{own_sections};
 ghost use Rattle.rail_spec.specs.Plans.{is_start};
 ghost use Rattle.interlocking.specs.Plans.{on};
 ghost use Rattle.rail_text.specs.Added.{AddsText};
@@ -65,8 +65,8 @@ fn start_name(design: &Design, start: Start) -> &[u8]
     }
 }
 
-/// The signal, the boundary or the last node at which it ends.
-fn finish_name(design: &Design, finish: Finish) -> &[u8]
+/// The signal, the boundary or the last node at which a route ends.
+pub fn finish_name(design: &Design, finish: Finish) -> &[u8]
     ensures { result.now ≡ finish_name design.now.station finish }
 {
     match finish {
@@ -112,16 +112,18 @@ fn is_twin(route: &Route, other: &Route) -> bool
     is_start(route.start, other.start) && is_finish(route.finish, other.finish)
 }
 
-/// Whether of the routes that start and end as this one does some one has not the section.
+/// Whether of the routes that start and end as this one does some one does not go over the section.
 fn tells_apart(routes: &[Route], route: &Route, section: SectionNo) -> bool
     ensures { result ≡ tells_apart routes.now route.now section }
 {
-    routes.iter().any(|other| is_twin(route, other) && !other.has_section(section))
+    routes
+        .iter()
+        .any(|other| is_twin(route, other) && !other.goes_over(section))
 }
 
 /// The first section in which routes differ that start and end as this one does.
 fn way_of(routes: &RouteTable, route: &Route) -> Option<SectionNo>
-    ensures { result ≡ find (tells_apart routes.now route.now) (sections route.now) }
+    ensures { result ≡ find (tells_apart routes.now route.now) (own_sections route.now) }
 {
     for part in route.sections.as_slice() {
         if tells_apart(routes.as_slice(), route, part.0) {

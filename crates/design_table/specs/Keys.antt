@@ -134,9 +134,9 @@ top_columns =
 
 -- ---- what a version knows
 
--- the number of a version, from 1 to 3; 0 for a number that is no version
+-- the number of a version, from 1 to 4; 0 for a number that is no version
 abbrev pub version_number : ℤ → ℕ
-version_number (pos n) = if nat_le n 3 then n else 0
+version_number (pos n) = if nat_le n 4 then n else 0
 version_number (negsuc n) = 0
 
 -- A version knows the columns of those up to it. What is no version knows what version 1 has.

@@ -95,13 +95,13 @@ impl Key {
     }
 }
 
-/// The number of a version, from 1 to 3; 0 for a number that is no version.
+/// The number of a version, from 1 to 4; 0 for a number that is no version.
 pub fn version_number(version: i64) -> u64
     ensures { result ≡ version_number version }
 {
     u64::try_from(version)
         .ok()
-        .filter(|number| *number <= 3)
+        .filter(|number| *number <= 4)
         .unwrap_or(0)
 }
 

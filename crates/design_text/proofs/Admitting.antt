@@ -108,8 +108,8 @@ module _ (d : Station) (admitted : is_admitted d ≡ true) where
       × (is_from 1 128 (length d.trains) ≡ true) × (nat_le (length d.orders) 256 ≡ true) × (nat_le (length d.withins) 256 ≡ true)
   few = seven (nat_le (length d.nodes) 2000) (nat_le (length d.edges) 4000) (nat_le (length d.signals) 1000) (nat_le (length d.vehicles) 64) (is_from 1 128 (length d.trains)) (nat_le (length d.orders) 256) (nat_le (length d.withins) 256) whole.0
 
-  pub timed : ((is_from 1 3 d.version) ≡ true) × (is_from 100 1000 d.tick_ms ≡ true) × (is_from 1 86400 (horizon d) ≡ true)
-  timed = three (is_from 1 3 d.version) (is_from 100 1000 d.tick_ms) (is_from 1 86400 (horizon d)) whole.1
+  pub timed : ((is_from 1 4 d.version) ≡ true) × (is_from 100 1000 d.tick_ms ≡ true) × (is_from 1 86400 (horizon d) ≡ true)
+  timed = three (is_from 1 4 d.version) (is_from 100 1000 d.tick_ms) (is_from 1 86400 (horizon d)) whole.1
 
   overlaps : (nat_le (length d.overlaps) (most_overlaps d) ≡ true) × (list_all (is_good_overlap d) d.overlaps ≡ true) × (all_pairs overlaps_differ d.overlaps ≡ true)
   overlaps = three (nat_le (length d.overlaps) (most_overlaps d)) (list_all (is_good_overlap d) d.overlaps) (all_pairs overlaps_differ d.overlaps) (and_right (are_few d && is_timed d && are_named d && is_sound_track d && is_sound_traffic d) (are_sound_overlaps d) admitted)

@@ -242,10 +242,10 @@ so_many n many most h = mul-le-mul h (omega arith)
 pub texts_are_short : TextsAreShort
 texts_are_short d admitted =
     let f = few d admitted in
-    let v = ranged 1 3 d.version (timed d admitted).0 in
+    let v = ranged 1 4 d.version (timed d admitted).0 in
     let t = ranged 100 1000 d.tick_ms (timed d admitted).1 in
     let trains = ranged 1 128 (length d.trains) f.4 in
-    let l1 = line_length keys.Version d.version 3 v.1 (omega arith) in
+    let l1 = line_length keys.Version d.version 4 v.1 (omega arith) in
     let l2 = line_length keys.TickMs d.tick_ms 1000 t.1 (omega arith) in
     let l3 = line_length keys.HorizonMs d.horizon_ms 86401000 (horizon_most d admitted) (omega arith) in
     let a1 = array_short node_line 80 keys.Node d.nodes (node_short d admitted) in

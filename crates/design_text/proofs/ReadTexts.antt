@@ -302,9 +302,9 @@ all_joined x y z a b c d e f g h =
 module _ (d : Station) (admitted : is_admitted d ≡ true) where
   all_good : GoodParts (first_part d ∷ more_parts d)
   all_good =
-      let version = ranged 1 3 d.version (timed d admitted).0 in
+      let version = ranged 1 4 d.version (timed d admitted).0 in
       let tick = ranged 100 1000 d.tick_ms (timed d admitted).1 in (
-        number_good keys.Version d.version 3 version.1 (omega arith),
+        number_good keys.Version d.version 4 version.1 (omega arith),
         (
           number_good keys.TickMs d.tick_ms 1000 tick.1 (omega arith),
           (

@@ -40,7 +40,7 @@ read_back d admitted =
     let from_d04 = unless_at D04 (unknown_names s) from_d05 in
     ap parsed_by (text_read d admitted)
     ∙ past D02 (form_fault (document d)) (resolved (sheet_of (document d))) (well_spelled d admitted)
-    ∙ ap resolved (sheet_is d (two (nat_le 1 d.version) (nat_le d.version 3) (timed d admitted).0).1 (no_overlaps d admitted))
+    ∙ ap resolved (sheet_is d (two (nat_le 1 d.version) (nat_le d.version 4) (timed d admitted).0).1 (no_overlaps d admitted))
     ∙ past D03 (repeated_names s) from_d04 (once_named d admitted)
     ∙ past D04 (unknown_names s) from_d05 (all_known d admitted)
     ∙ past D05 (out_of_range s) rules (all_inside d admitted)

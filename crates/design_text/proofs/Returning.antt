@@ -239,8 +239,8 @@ module _ (d : Station) (admitted : is_admitted d ≡ true) where
 
   version_small : number_32 (pos d.version) ≡ d.version
   version_small =
-      let range = ranged 1 3 d.version (timed d admitted).0 in
-      small d.version 3 range.1 (omega arith)
+      let range = ranged 1 4 d.version (timed d admitted).0 in
+      small d.version 4 range.1 (omega arith)
 
   tick_small : number_32 (pos d.tick_ms) ≡ d.tick_ms
   tick_small =

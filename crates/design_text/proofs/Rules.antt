@@ -304,8 +304,8 @@ module _ (d : Station) (admitted : is_admitted d ≡ true) where
       let t = timed d admitted in
       let ticks = ranged 1 86400 (horizon d) t.2 in
       let fits = is_horizon (pos d.horizon_ms) (pos d.tick_ms) in
-      three_nothing (unless_from 1 3 (pos d.version) (Top keys.Version)) (unless_from 100 1000 (pos d.tick_ms) (Top keys.TickMs)) (at (not fits) (Top keys.HorizonMs))
-      (inside 1 3 d.version (Top keys.Version) t.0)
+      three_nothing (unless_from 1 4 (pos d.version) (Top keys.Version)) (unless_from 100 1000 (pos d.tick_ms) (Top keys.TickMs)) (at (not fits) (Top keys.HorizonMs))
+      (inside 1 4 d.version (Top keys.Version) t.0)
       (inside 100 1000 d.tick_ms (Top keys.TickMs) t.1)
       (met fits (Top keys.HorizonMs) (and_both (nat_le 1 d.horizon_ms) (nat_le (d.horizon_ms / d.tick_ms) 86400) (some_time d.horizon_ms d.tick_ms ticks.0) (and_right (nat_le 1 (horizon d)) (nat_le (horizon d) 86400) t.2)))
 

@@ -177,7 +177,7 @@ read_overlap version ms = parse.overlap_of (value_of version kinds.Overlap ms)
 -- the sheet of a table, by what its keys hold
 sheet_from : (ms : Members) (a b c : ℕ) (nodes edges signals vehicles trains orders withins : Option Data)
     → found keys.Version ms ≡ Some (integer (pos a)) → found keys.TickMs ms ≡ Some (integer (pos b)) → found keys.HorizonMs ms ≡ Some (integer (pos c))
-    → found keys.Node ms ≡ nodes → found keys.Edge ms ≡ edges → found keys.Signal ms ≡ signals → found keys.Vehicle ms ≡ vehicles → found keys.Train ms ≡ trains → found keys.Order ms ≡ orders → found keys.Within ms ≡ withins → nat_le a 3 ≡ true
+    → found keys.Node ms ≡ nodes → found keys.Edge ms ≡ edges → found keys.Signal ms ≡ signals → found keys.Vehicle ms ≡ vehicles → found keys.Train ms ≡ trains → found keys.Order ms ≡ orders → found keys.Within ms ≡ withins → nat_le a 4 ≡ true
     → sheet_of ms ≡ record {
       version = pos a;
       tick_ms = pos b;
@@ -338,7 +338,7 @@ module _ (d : Station) where
   abbrev read_as : {X A : Type 0} → (Members → A) → (X → Data) → List X → List A
   read_as read holds xs = map (λ entry. read (members_of entry)) (items_in (some_array holds xs))
 
-  pub sheet_is : nat_le d.version 3 ≡ true → (nat_le 4 d.version ≡ false → d.overlaps ≡ []) → sheet_of (document d) ≡ sheet d
+  pub sheet_is : nat_le d.version 4 ≡ true → (nat_le 4 d.version ≡ false → d.overlaps ≡ []) → sheet_of (document d) ≡ sheet d
   sheet_is known old =
       sheet_from (document d) d.version d.tick_ms d.horizon_ms (some_array node_table d.nodes) (some_array (edge_table d) d.edges) (some_array (signal_table d) d.signals) (some_array vehicle_table d.vehicles) (some_array (train_table d) d.trains) (some_array (order_table d) d.orders) (some_array (within_table d) d.withins)
       version_found tick_found horizon_found nodes_found edges_found signals_found vehicles_found trains_found orders_found withins_found known

@@ -84,7 +84,7 @@ all_nothing a b c n e s v t o w l u p1 p2 p3 p4 p5 p6 p7 p8 p9 p10 p11 p12 = rw 
 
 form_right : (ms : Members) (a b c : ℕ) → found keys.Version ms ≡ Some (integer (pos a)) → found keys.TickMs ms ≡ Some (integer (pos b)) → found keys.HorizonMs ms ≡ Some (integer (pos c))
     → wrong_array a kinds.Node ms ≡ [] → wrong_array a kinds.Edge ms ≡ [] → wrong_array a kinds.Signal ms ≡ [] → wrong_array a kinds.Vehicle ms ≡ [] → wrong_array a kinds.Train ms ≡ [] → wrong_array a kinds.Order ms ≡ [] → wrong_array a kinds.Within ms ≡ [] → wrong_array a kinds.Overlap ms ≡ []
-    → has_unknown (top_keys a) ms ≡ false → nat_le a 3 ≡ true → form_fault ms ≡ []
+    → has_unknown (top_keys a) ms ≡ false → nat_le a 4 ≡ true → form_fault ms ≡ []
 unfolding form_fault
 form_right ms a b c va vb vc n e s v t o w l none known =
     let kept : version_number (pos a) ≡ a = rw known refl in
@@ -265,4 +265,4 @@ module _ (d : Station) (admitted : is_admitted d ≡ true) where
       (array_right version kinds.Order (order_table d) d.orders (document d) (orders_found d) order_spelled)
       (array_right version kinds.Within (within_table d) d.withins (document d) (withins_found d) within_spelled)
       (array_right version kinds.Overlap (overlap_table d) d.overlaps (document d) (overlaps_top d (no_overlaps d admitted)) overlap_spelled)
-      none_else (and_right (nat_le 1 d.version) (nat_le d.version 3) (timed d admitted).0)
+      none_else (and_right (nat_le 1 d.version) (nat_le d.version 4) (timed d admitted).0)

@@ -27,7 +27,7 @@ use Rattle.rail_course.specs.Milestones.{AreMilestones, ComeInTurn}
 use Rattle.rail_course.specs.Releases.{releases_of_train}
 use Rattle.rail_course.specs.Marks.{mark_grants}
 use Rattle.dispatch_run.specs.Settled.{AreGrantedInTurn, ArePassedInTurn, AreReleasedInTurn}
-use Rattle.dispatch_run.proofs.Marking.{release, released_is}
+use Rattle.quiet_spec.proofs.Staying.{release, released_is}
 use Rattle.dispatch_run.proofs.Settling.{MayBeMarked}
 
 -- ---- one mark

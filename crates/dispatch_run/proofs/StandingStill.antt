@@ -22,7 +22,9 @@ use Rattle.rail_laws.proofs.MotionLaws.{permitted_stop}
 use Rattle.rail_laws.proofs.Visiting.{in_visits_on, longer_path}
 use Rattle.rail_laws.proofs.Stops.{stop_in}
 use Rattle.motion_leap.specs.Steps.{Going, going, after}
+use Rattle.rail_course.specs.declared.journey.Hold.{Hold}
 use Rattle.rail_course.specs.declared.journey.Release.{Release}
+use Rattle.rail_course.specs.Holds.{holds_of_train}
 use Rattle.rail_course.specs.Releases.{releases_of_train}
 use Rattle.rail_course.specs.Dwells.{dwells_from}
 use Rattle.rail_course.specs.Tracks.{routes_at}
@@ -191,7 +193,7 @@ module _ (d : Station) (routes : List Route) (dispatch : Dispatch) (t : TrainNo)
 
   -- who goes nowhere comes nowhere
   pub stays_nowhere : (s : TrainState) → ComesNowhere d routes dispatch t s s
-  stays_nowhere s = record { nodes = λ q m. either s.x q.event.place; releases = λ r m. either s.x r.event.place; stands = λ j. either s.stood (dwell_up_to d t j) }
+  stays_nowhere s = record { nodes = λ q m. either s.x q.event.place; releases = λ r m. either s.x r.event.place; holds = λ h m. either s.x h.event.event.place; stands = λ j. either s.stood (dwell_up_to d t j) }
     where
       either : (x place : ℕ) → IsNotReached x x place
       either x place = grind arith
@@ -220,6 +222,21 @@ module _ (d : Station) (routes : List Route) (dispatch : Dispatch) (t : TrainNo)
 
   -- ---- for how long it comes nowhere
 
+  -- and for a shorter time too
+  pub nowhere_sooner : (g i n : ℕ) (s : TrainState) → i ≤ n → ComesNowhere d routes dispatch t s (goes g n s) → ComesNowhere d routes dispatch t s (goes g i s)
+  nowhere_sooner g i n s less far =
+      let w = goes_within g i n s less in
+      record {
+        nodes = λ q m. nearer (goes g i s).x (goes g n s).x s.x q.event.place w.0 (far.nodes q m);
+        releases = λ r m. nearer (goes g i s).x (goes g n s).x s.x r.event.place w.0 (far.releases r m);
+        holds = λ h m. nearer (goes g i s).x (goes g n s).x s.x h.event.event.place w.0 (far.holds h m);
+        stands = λ j. nearer (goes g i s).stood (goes g n s).stood s.stood (dwell_up_to d t j) w.1 (far.stands j);
+      }
+    where
+      nearer : (y z x place : ℕ) → y ≤ z → IsNotReached x z place → IsNotReached x y place
+      nearer y z x place less (inl behind) = inl behind
+      nearer y z x place less (inr ahead) = inr (omega arith)
+
   -- who stands: as long as no end of a stand comes
   pub clear_standing : (g n end : ℕ) (s : TrainState) → s.granted ≡ g → 1 ≤ g → stands d routes dispatch t s ≡ true → NoneBefore (dwells_from 0 (dwell_ticks d t)) s.stood end → s.stood + n < end → ComesNowhere d routes dispatch t s (goes g n s)
   clear_standing zero n end s same some at apart less = absurd (omega arith)
@@ -228,24 +245,27 @@ module _ (d : Station) (routes : List Route) (dispatch : Dispatch) (t : TrainNo)
       (record {
         nodes = λ q m. either q.event.place;
         releases = λ r m. either r.event.place;
+        holds = λ h m. either h.event.event.place;
         stands = λ j. (let z : 0 + sum (take j (dwell_ticks d t)) ≡ sum (take j (dwell_ticks d t)) = omega arith in subst (IsNotReached s.stood (rested n s).stood) z (sums_apart (dwell_ticks d t) 0 s.stood (rested n s).stood end apart (omega arith) (let r = rested_stood n s in omega arith) j));
       })
     where
       either : (place : ℕ) → IsNotReached s.x (rested n s).x place
       either place = let e = rested_x n s in grind arith
 
-  -- who moves: as long as it is short of the next node and the next release
+  -- who moves: as long as it is short of the next node, the next release and the next hold
   pub clear_moving : (g n y : ℕ) (s : TrainState) → s.granted ≡ g → 1 ≤ g → CanMove d routes dispatch t g s → stands d routes dispatch t (with_granted g s) ≡ false
       → ((q : PathNode) → In q (path_nodes_of_train d routes dispatch t) → (q.event.place ≤ s.x) ⊎ (y ≤ q.event.place))
       → ((r : Release) → In r (releases_of_train d routes dispatch t) → (r.event.place ≤ s.x) ⊎ (y ≤ r.event.place))
+      → ((h : Hold) → In h (holds_of_train d routes dispatch t) → (h.event.event.place ≤ s.x) ⊎ (y ≤ h.event.event.place))
       → ((i : ℕ) → i ≤ n → (way g s i).x < y) → ComesNowhere d routes dispatch t s (goes g n s)
-  clear_moving zero n y s same some can away nodes releases short = absurd (omega arith)
-  clear_moving (suc g) n y s same some can away nodes releases short =
+  clear_moving zero n y s same some can away nodes releases holds short = absurd (omega arith)
+  clear_moving (suc g) n y s same some can away nodes releases holds short =
       subst (ComesNowhere d routes dispatch t s)
       (sym (moves_on g s same n (λ i l e. let m : i ≤ n = omega arith in short_of_place g s same can away (way (suc g) s i).x (λ q k. apart_by s.x (way (suc g) s i).x y q.event.place (short i m) (nodes q k)) (way (suc g) s i).x (le_refl _))))
       (record {
         nodes = λ q k. apart_by s.x (way (suc g) s n).x y q.event.place (short n (le_refl n)) (nodes q k);
         releases = λ r k. apart_by s.x (way (suc g) s n).x y r.event.place (short n (le_refl n)) (releases r k);
+        holds = λ h k. apart_by s.x (way (suc g) s n).x y h.event.event.place (short n (le_refl n)) (holds h k);
         stands = λ j. either (dwell_up_to d t j);
       })
     where

@@ -40,7 +40,7 @@ abbrev no_look : Look
 no_look = record { since = 0; until = 1 }
 
 abbrev no_history : TrainHistory
-no_history = record { grants = []; passes = []; releases = []; visits = []; dwells = [] }
+no_history = record { grants = []; passes = []; releases = []; holds = []; visits = []; dwells = [] }
 
 module _ (d : Station) (routes : List Route) (dispatch : Dispatch) where
   visit_at_other : (k m : ℕ) (t : TrainNo) → ((a : ℕ) → 1 ≤ a → a ≤ k → a ≡ m → ⊥) → (place : Option PathNode) → is_at m (option_map (λ (v : NodeNo × ℕ). v.1) (visit_made d routes dispatch k t place)) ≡ false

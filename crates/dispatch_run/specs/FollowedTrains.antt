@@ -7,7 +7,8 @@ use Rattle.rail_base.specs.declared.route.Route.{Route}
 use Rattle.rail_base.specs.declared.state.TrainState.{TrainState}
 use Rattle.rail_base.specs.Stations.{IsTrain, trains}
 use Rattle.rail_spec.specs.Motion.{permitted}
-use Rattle.rail_spec.specs.Dispatches.{Dispatch, state_of, state_at, granted_after, rates, stretches, with_granted, authority}
+use Rattle.rail_spec.specs.Dispatches.{Dispatch, state_of, pasts_at, state_at, granted_after, rates, stretches}
+use Rattle.rail_spec.specs.Dispatches.{with_granted, authority}
 use Rattle.rail_course.specs.Journeys.{IsJourney}
 use Rattle.rail_course.specs.Tracks.{routes_at}
 use Rattle.dispatch_run.specs.declared.traffic.FollowedTrain.{FollowedTrain}
@@ -53,9 +54,10 @@ module _ (d : Station) (routes : List Route) (dispatch : Dispatch) where
     pub on : (k : ℕ) → k ≤ 86400 → (t : TrainNo) → IsTrain d t
         → CanMove t (train_state k t).granted (train_state k t)
     pub next : (k : ℕ) → k ≤ 86400 → (t : TrainNo) → IsTrain d t
-        → CanMove t (granted_after d routes dispatch (state_at d routes dispatch k) t) (train_state k t)
+        → CanMove t (granted_after d routes dispatch (pasts_at d routes dispatch k) t) (train_state k t)
 
 -- the traffic is that of the dispatch
 pub record IsTraffic (dispatch : Dispatch) (r : Traffic) : Type 0 where
   pub goes : MayGo r.interlocking.now.design.station r.interlocking.now.routes dispatch
-  pub followed_trains : AreFollowedTrains r.interlocking.now.design.station r.interlocking.now.routes dispatch r.followed_trains.now
+  pub followed_trains :
+      AreFollowedTrains r.interlocking.now.design.station r.interlocking.now.routes dispatch r.followed_trains.now

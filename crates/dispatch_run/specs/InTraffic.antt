@@ -13,7 +13,7 @@ use Rattle.rail_course.specs.TrainPaths.{IsTrainPath}
 use Rattle.rail_course.specs.Tracks.{routes_at}
 use Rattle.quiet_spec.specs.Forecasts.{IsSeen}
 use Rattle.quiet_spec.specs.Histories.{history_at, train_history}
-use Rattle.quiet_spec.specs.Quiet.{ComesNowhere, drift}
+use Rattle.quiet_spec.specs.Quiet.{ComesNowhere, EndsNoHold, drift}
 use Rattle.dispatch_run.specs.declared.looks.Look.{Look}
 use Rattle.dispatch_run.specs.declared.run.Progress.{Progress}
 use Rattle.dispatch_run.specs.declared.traffic.FollowedTrain.{FollowedTrain}
@@ -76,8 +76,8 @@ module _ (r : Traffic) (dispatch : Dispatch) where
   abbrev pub drift_in : FollowedTrain → ℕ → ℕ → TrainState → TrainState
   drift_in f = drift r.interlocking.now.design.station r.interlocking.now.routes dispatch (followed_train_no f)
 
-  -- from one state to the other the train comes to no node, to no place at which it releases a section and to no end of
-  -- a stand
+  -- from one state to the other the train comes to no node, to no place at which it releases a section, to none from
+  -- which on it holds one and to no end of a stand
   abbrev pub ComesNowhereIn : FollowedTrain → TrainState → TrainState → Type 0
   ComesNowhereIn f =
       ComesNowhere r.interlocking.now.design.station r.interlocking.now.routes dispatch (followed_train_no f)
@@ -89,6 +89,11 @@ module _ (r : Traffic) (dispatch : Dispatch) where
   -- and where it goes on for some ticks from a tick on, in which it is granted nothing
   abbrev pub IsIdleFor : FollowedTrain → ℕ → TrainState → ℕ → Type 0
   IsIdleFor f tick s ticks = ComesNowhereIn f s (drift_in f tick ticks s)
+
+  -- in the ticks after one and up to another no hold of the train ends that had begun
+  abbrev pub EndsNoHoldIn : FollowedTrain → ℕ → ℕ → Type 0
+  EndsNoHoldIn f tick last =
+      EndsNoHold r.interlocking.now.design.station r.interlocking.now.routes dispatch tick last (followed_train_no f)
 
   -- what has happened to a train by a tick
   abbrev pub train_history_in : ℕ → FollowedTrain → TrainHistory
@@ -110,12 +115,14 @@ module _ (r : Traffic) (dispatch : Dispatch) where
   IsKnownIn = IsKnown r.interlocking.now.design.station r.interlocking.now.routes dispatch
 
   -- the tick is the next after one at which all is known
-  abbrev pub IsTurnIn : ℕ → List TrainState → List Look → Type 0
+  abbrev pub IsTurnIn : ℕ → List TrainState → List TrainHistory → List Look → Type 0
   IsTurnIn = IsTurn r.interlocking.now.design.station r.interlocking.now.routes dispatch
 
-  -- what is known of a train at a tick, of which nothing is granted since one tick and nowhere is come to before another
+  -- what is known of a train at a tick, which since one tick is granted nothing, and before another comes nowhere and no
+  -- hold of it ends
   abbrev pub IsSeenIn : ℕ → FollowedTrain → TrainState → ℕ → ℕ → Type 0
-  IsSeenIn tick f = IsSeen r.interlocking.now.design.station r.interlocking.now.routes dispatch tick (followed_train_no f)
+  IsSeenIn tick f =
+      IsSeen r.interlocking.now.design.station r.interlocking.now.routes dispatch tick (followed_train_no f)
 
   -- a train that is to be looked at then has its state of the tick, and another the one that it had
   abbrev pub looked_state_in : ℕ → List TrainState → List Look → FollowedTrain → TrainState

@@ -1,5 +1,6 @@
 -- Marks that come in turn: what is behind something that has its tick has its tick too.
-use Rattle.std.specs.Prelude.{◌≡◌, ℕ, ◌≤◌, ◌<◌, true, List, map, length, Option, None, Some, is_some, slice_index_or, nat_lt, if◌then◌else◌}
+use Rattle.std.specs.Prelude.{◌≡◌, ℕ, ◌≤◌, ◌<◌, true, List, map, length, Option, None, Some, is_some, slice_index_or}
+use Rattle.std.specs.Prelude.{nat_lt, if◌then◌else◌}
 use Rattle.rail_base.specs.declared.station.NodeNo.{NodeNo}
 use Rattle.rail_base.specs.declared.station.SectionNo.{SectionNo}
 use Rattle.rail_base.specs.declared.route.RouteNo.{RouteNo}
@@ -24,7 +25,8 @@ pub record ArePassedInTurn (path_nodes : List PathNode) (passes : List (NodeNo �
 
 -- these are marks of releases
 pub record AreReleasedInTurn (releases : List Release) (entries : List (RouteNo × SectionNo × Option ℕ)) : Type 0 where
-  pub named : map {B = RouteNo × SectionNo} (λ e. (e.0, e.1)) entries ≡ map {B = RouteNo × SectionNo} (λ r. (r.route, r.section)) releases
+  pub named : map {B = RouteNo × SectionNo} (λ e. (e.0, e.1)) entries
+      ≡ map {B = RouteNo × SectionNo} (λ r. (r.route, r.section)) releases
   pub in_turn : AreInTurn (λ r. r.event.place) (λ e. e.2) releases entries
 
 -- up to where all has its tick, where what is at a place has this one

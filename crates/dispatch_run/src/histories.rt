@@ -5,9 +5,10 @@ ghost use Rattle.rail_spec.specs.Dispatches.{Dispatch};
 ghost use Rattle.dispatch_run.specs.FollowedTrains.{IsTraffic};
 ghost use Rattle.dispatch_run.specs.InTraffic.{IsFollowedTrainIn, history_in, state_in, states_in, train_history_in};
 
+use crate::drifts::clock_at;
 use crate::marks::{
-    mark_dwells, mark_grants, mark_passes, mark_releases, mark_visits, none_granted, none_passed,
-    none_released, none_stood, none_visited,
+    mark_dwells, mark_grants, mark_holds, mark_passes, mark_releases, mark_visits, none_ended,
+    none_granted, none_passed, none_released, none_stood, none_visited,
 };
 use crate::traffic::{FollowedTrain, Traffic};
 use rail_base::history::TrainHistory;
@@ -65,6 +66,7 @@ impl Traffic<'_> {
             grants,
             passes,
             releases,
+            holds,
             visits,
             dwells,
         } = old;
@@ -85,6 +87,14 @@ impl Traffic<'_> {
             &journey.release_milestones,
             &mut releases,
         );
+        let holds = mark_holds(
+            alloc,
+            &passes,
+            clock_at(followed_train.until, tick),
+            tick,
+            &journey.holds,
+            holds.as_slice(),
+        )?;
         let visits = mark_visits(
             alloc,
             state,
@@ -103,6 +113,7 @@ impl Traffic<'_> {
             grants: List::from_vec(grants),
             passes: List::from_vec(passes),
             releases: List::from_vec(releases),
+            holds: List::from_vec(holds),
             visits: List::from_vec(visits),
             dwells: List::from_vec(dwells),
         })
@@ -123,12 +134,14 @@ impl Traffic<'_> {
         let grants = none_granted(alloc, train_path.path.as_slice())?;
         let passes = none_passed(alloc, train_path.path_nodes.as_slice())?;
         let releases = none_released(alloc, journey.releases.as_slice())?;
+        let holds = none_ended(alloc, journey.holds.as_slice())?;
         let visits = none_visited(alloc, train_path.visits.as_slice())?;
         let dwells = none_stood(alloc, train_path.dwells.as_slice())?;
         Ok(TrainHistory {
             grants: List::from_vec(grants),
             passes: List::from_vec(passes),
             releases: List::from_vec(releases),
+            holds: List::from_vec(holds),
             visits: List::from_vec(visits),
             dwells: List::from_vec(dwells),
         })
@@ -141,6 +154,7 @@ pub(crate) fn empty_history(alloc: Global) -> TrainHistory {
         grants: List::new(alloc),
         passes: List::new(alloc),
         releases: List::new(alloc),
+        holds: List::new(alloc),
         visits: List::new(alloc),
         dwells: List::new(alloc),
     }

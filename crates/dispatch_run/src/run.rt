@@ -64,6 +64,7 @@ impl Traffic<'_> {
         let states = self.next_states(
             alloc,
             progress.states.as_slice(),
+            progress.histories.as_slice(),
             progress.looks.as_slice(),
             tick,
         )?;
@@ -75,7 +76,13 @@ impl Traffic<'_> {
             tick,
         )?;
         let visited = has_looked_visit_at(progress.looks.as_slice(), histories.as_slice(), tick);
-        let looks = self.next_looks(alloc, states.as_slice(), progress.looks.as_slice(), tick)?;
+        let looks = self.next_looks(
+            alloc,
+            states.as_slice(),
+            histories.as_slice(),
+            progress.looks.as_slice(),
+            tick,
+        )?;
         Ok(Progress {
             tick,
             states,

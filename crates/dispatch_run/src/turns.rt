@@ -26,17 +26,18 @@ impl Traffic<'_> {
         &self,
         alloc: Global,
         states: &[TrainState],
+        histories: &[TrainHistory],
         looks: &[Look],
         tick: u64,
     ) -> Result<Vec<TrainState>, AllocError>
         ghost dispatch: { Dispatch }
         requires traffic { IsTraffic dispatch self.now }
-        requires turn { IsTurnIn self.now dispatch tick states.now looks.now }
+        requires turn { IsTurnIn self.now dispatch tick states.now histories.now looks.now }
         ensures { IfOk result (λ s. s.items ≡ looked_states_in self.now dispatch tick states.now looks.now) }
     {
         let mut next = Vec::new(alloc);
         for followed_train in self.followed_trains {
-            next.push(self.next_state(followed_train, states, looks, tick))?;
+            next.push(self.next_state(followed_train, states, histories, looks, tick))?;
         }
         Ok(next)
     }
@@ -76,17 +77,19 @@ impl Traffic<'_> {
         &self,
         alloc: Global,
         states: &[TrainState],
+        histories: &[TrainHistory],
         looks: &[Look],
         tick: u64,
     ) -> Result<Vec<Look>, AllocError>
         ghost dispatch: { Dispatch }
         requires traffic { IsTraffic dispatch self.now }
         requires looked { AreLookedAtIn self.now dispatch tick states.now looks.now }
+        requires histories { histories.now ≡ history_in self.now dispatch tick }
         ensures { IfOk result (λ looks. IsKnownIn self.now dispatch tick states.now looks.items) }
     {
         let mut next = Vec::new(alloc);
         for followed_train in self.followed_trains {
-            next.push(self.next_look(followed_train, states, looks, tick))?;
+            next.push(self.next_look(followed_train, states, histories, looks, tick))?;
         }
         Ok(next)
     }
@@ -97,13 +100,14 @@ impl Traffic<'_> {
         &self,
         followed_train: &FollowedTrain,
         states: &[TrainState],
+        histories: &[TrainHistory],
         looks: &[Look],
         tick: u64,
     ) -> TrainState
         ghost dispatch: { Dispatch }
         requires traffic { IsTraffic dispatch self.now }
         requires followed_train { IsFollowedTrainIn self.now dispatch followed_train.now }
-        requires turn { IsTurnIn self.now dispatch tick states.now looks.now }
+        requires turn { IsTurnIn self.now dispatch tick states.now histories.now looks.now }
         ensures { result ≡ looked_state_in self.now dispatch tick states.now looks.now followed_train.now }
     {
         let train = followed_train.journey.train_path.train;
@@ -118,6 +122,7 @@ impl Traffic<'_> {
         }
         let granted = granted_on(
             states,
+            histories,
             state.granted,
             followed_train.journey.waits.as_slice(),
         );
@@ -153,6 +158,7 @@ impl Traffic<'_> {
         &self,
         followed_train: &FollowedTrain,
         state: TrainState,
+        history: &TrainHistory,
         look: Look,
         tick: u64,
     ) -> Look
@@ -162,15 +168,17 @@ impl Traffic<'_> {
         requires at_least_one { 1 ≤ tick }
         requires at_most_86400 { tick ≤ 86400 }
         requires looked { IsLookedAtIn self.now dispatch tick followed_train.now state look }
+        requires history { history.now ≡ train_history_in self.now dispatch tick followed_train.now }
         ensures seen { IsSeenIn self.now dispatch tick followed_train.now state result.since result.until }
         ensures begun { 1 ≤ result.since }
     {
         if look.until != tick {
             return look;
         }
+        let idle = self.idle_ticks(followed_train, state, history, tick, LAST - tick);
         Look {
             since: tick,
-            until: tick + 1 + self.idle_ticks(followed_train, state, tick, LAST - tick),
+            until: tick + 1 + idle,
         }
     }
 
@@ -179,6 +187,7 @@ impl Traffic<'_> {
         &self,
         followed_train: &FollowedTrain,
         states: &[TrainState],
+        histories: &[TrainHistory],
         looks: &[Look],
         tick: u64,
     ) -> Look
@@ -186,16 +195,19 @@ impl Traffic<'_> {
         requires traffic { IsTraffic dispatch self.now }
         requires followed_train { IsFollowedTrainIn self.now dispatch followed_train.now }
         requires looked { AreLookedAtIn self.now dispatch tick states.now looks.now }
+        requires histories { histories.now ≡ history_in self.now dispatch tick }
         ensures { IsLookIn self.now dispatch tick states.now followed_train.now result }
     {
         let train = followed_train.journey.train_path.train;
         let state = state_of(states, train);
-        let look = self.far_look(followed_train, state, look_of(looks, train), tick);
+        let history = &histories[train.0 as usize - 1];
+        let look = self.far_look(followed_train, state, history, look_of(looks, train), tick);
         if !is_followed(followed_train.until, tick + 1) {
             return look;
         }
         if granted_on(
             states,
+            histories,
             state.granted,
             followed_train.journey.waits.as_slice(),
         ) == state.granted

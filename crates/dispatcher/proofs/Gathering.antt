@@ -1,12 +1,11 @@
 -- Queues and lists of waits, one write further.
-use Rattle.std.proofs.Common.{◌≡◌, ℕ, zero, suc, ◌+◌, ◌-◌, ◌≤◌, ◌<◌, ◌⊎◌, inl, inr, Bool, true, false, cond, ◌||◌, ◌==◌, if◌then◌else◌, List, [], ◌∷◌, ◌++◌, map, filter, take, length, get_or, set, refl, sym, ap, subst, ◌∙◌, arith, append_assoc}
+use Rattle.std.proofs.Common.{◌≡◌, ℕ, zero, suc, ◌+◌, ◌-◌, ◌≤◌, ◌<◌, inl, inr, Bool, true, false, cond, ◌&&◌, ◌||◌, ◌==◌, if◌then◌else◌, List, [], ◌∷◌, ◌++◌, map, filter, take, length, get_or, set, refl, sym, ap, subst, ◌∙◌, arith, append_assoc}
 use Rattle.std.specs.List.{list_any}
 use Rattle.std.proofs.lemmas.List.{append-nil, map-append, take_more, get_or-set_same, get_or-set_other, get_or_default}
 use Rattle.std.proofs.lemmas.List.Folds.{list_any_more}
 use Rattle.std.proofs.lemmas.Bool.Decides.{eqb_tells}
 use Rattle.rail_base.specs.Numbering.{entry}
 use Rattle.rail_base.proofs.Members.{filter-append}
-use Rattle.dispatcher.specs.Queues.{these_or}
 
 -- ---- one of some lists is written
 
@@ -42,22 +41,42 @@ entry_empty {X} (x ∷ xs) h (suc (suc j)) = entry_empty xs later (suc j)
     later zero = refl
     later (suc i) = h (suc (suc i))
 
--- ---- queues that are emptied
+-- ---- queues of which something is left
 
-cleared : {X : Type 0} (b t : Bool) (new old first : List X) → new ≡ (if t then [] else old) → old ≡ (if b then [] else first) → new ≡ (if b || t then [] else first)
-cleared true true new old first e f = e
-cleared true false new old first e f = e ∙ f
-cleared false true new old first e f = e
-cleared false false new old first e f = e ∙ f
+once_left : {Y : Type 0} (f : List Y → List Y) → ((ys : List Y) → f (f ys) ≡ f ys) → (b t : Bool) (new old first : List Y) → new ≡ (if t then f old else old) → old ≡ (if b then f first else first) → new ≡ (if b || t then f first else first)
+once_left f twice true true new old first e g = e ∙ ap f g ∙ twice first
+once_left f twice true false new old first e g = e ∙ g
+once_left f twice false true new old first e g = e ∙ ap f g
+once_left f twice false false new old first e g = e ∙ g
 
-pub cleared_more : {X Y : Type 0} (test : X → Bool) (xs : List X) (i : ℕ) (other : X) → i < length xs → (new old first : List Y) → new ≡ (if test (get_or xs i other) then [] else old) → old ≡ (if list_any test (take i xs) then [] else first)
-    → new ≡ (if list_any test (take (i + 1) xs) then [] else first)
-cleared_more test xs i other h new old first e f =
-    cleared (list_any test (take i xs)) (test (get_or xs i other)) new old first e f ∙ sym (ap (λ b. if b then [] else first) (list_any_more test xs i other h))
+pub left_more : {X Y : Type 0} (f : List Y → List Y) → ((ys : List Y) → f (f ys) ≡ f ys) → (test : X → Bool) (xs : List X) (i : ℕ) (other : X) → i < length xs → (new old first : List Y) → new ≡ (if test (get_or xs i other) then f old else old) → old ≡ (if list_any test (take i xs) then f first else first)
+    → new ≡ (if list_any test (take (i + 1) xs) then f first else first)
+left_more f twice test xs i other h new old first e before =
+    once_left f twice (list_any test (take i xs)) (test (get_or xs i other)) new old first e before ∙ sym (ap (λ b. if b then f first else first) (list_any_more test xs i other h))
+
+pub filter-filter : {X : Type 0} (p q : X → Bool) (xs : List X) → filter p (filter q xs) ≡ filter (λ x. q x && p x) xs
+filter-filter p q [] = refl
+filter-filter {X} p q (x ∷ xs) = go (q x) (p x) refl (filter-filter p q xs)
+  where
+    go : (a b : Bool) → p x ≡ b → filter p (filter q xs) ≡ filter (λ y. q y && p y) xs → filter p (cond a (x ∷ filter q xs) (filter q xs)) ≡ cond (a && b) (x ∷ filter (λ y. q y && p y) xs) (filter (λ y. q y && p y) xs)
+    go true true e rest = ap (λ b. cond b (x ∷ filter p (filter q xs)) (filter p (filter q xs))) e ∙ ap (λ ys. x ∷ ys) rest
+    go true false e rest = ap (λ b. cond b (x ∷ filter p (filter q xs)) (filter p (filter q xs))) e ∙ rest
+    go false b e rest = rest
+
+pub filter-same : {X : Type 0} (p q : X → Bool) (xs : List X) → ((x : X) → p x ≡ q x) → filter p xs ≡ filter q xs
+filter-same p q [] h = refl
+filter-same p q (x ∷ xs) h = ap (λ b. cond b (x ∷ filter p xs) (filter p xs)) (h x) ∙ ap (λ ys. cond (q x) (x ∷ ys) ys) (filter-same p q xs h)
+
+both_so : (a : Bool) → (a && a) ≡ a
+both_so true = refl
+both_so false = refl
+
+pub filter-twice : {X : Type 0} (p : X → Bool) (xs : List X) → filter p (filter p xs) ≡ filter p xs
+filter-twice p xs = filter-filter p p xs ∙ filter-same (λ x. p x && p x) p xs (λ x. both_so (p x))
 
 -- ---- queues that are filled
 
-filter_more : {X : Type 0} (test : X → Bool) (xs : List X) (i : ℕ) (other : X) → i < length xs → filter test (take (i + 1) xs) ≡ filter test (take i xs) ++ cond (test (get_or xs i other)) (get_or xs i other ∷ []) []
+pub filter_more : {X : Type 0} (test : X → Bool) (xs : List X) (i : ℕ) (other : X) → i < length xs → filter test (take (i + 1) xs) ≡ filter test (take i xs) ++ cond (test (get_or xs i other)) (get_or xs i other ∷ []) []
 filter_more test xs i other h = ap (filter test) (take_more xs i other h) ∙ filter-append test (take i xs) (get_or xs i other ∷ [])
 
 pub filled_more : {X Y : Type 0} (f : X → Y) (test : X → Bool) (xs : List X) (i : ℕ) (other : X) → i < length xs → (new old first : List Y) → new ≡ (if test (get_or xs i other) then old ++ f (get_or xs i other) ∷ [] else old) → old ≡ first ++ map f (filter test (take i xs))
@@ -75,33 +94,7 @@ filled_more {X} {Y} f test xs i other h new old first e before =
     go true = ap (λ ys. ys ++ f x ∷ []) before ∙ append_assoc first (map f kept) (f x ∷ []) ∙ ap (λ ys. first ++ ys) (sym (map-append f kept (x ∷ [])))
     go false = before ∙ ap (λ ys. first ++ map f ys) (sym (append-nil kept))
 
--- ---- a queue after a step
-
-either_kept : {X : Type 0} (test : X → Bool) (xs : List X) → ((filter test xs ≡ []) × (list_any test xs ≡ false)) ⊎ ((x : X) × (ys : List X) × (filter test xs ≡ x ∷ ys) × (list_any test xs ≡ true))
-either_kept test [] = inl (refl, refl)
-either_kept {X} test (x ∷ xs) = go (test x) (either_kept test xs)
-  where
-    go : (b : Bool) → ((filter test xs ≡ []) × (list_any test xs ≡ false)) ⊎ ((y : X) × (ys : List X) × (filter test xs ≡ y ∷ ys) × (list_any test xs ≡ true))
-        → ((cond b (x ∷ filter test xs) (filter test xs) ≡ []) × ((b || list_any test xs) ≡ false)) ⊎ ((y : X) × (ys : List X) × (cond b (x ∷ filter test xs) (filter test xs) ≡ y ∷ ys) × ((b || list_any test xs) ≡ true))
-    go true later = inr (x, filter test xs, refl, refl)
-    go false later = later
-
-pub turned : {X Y : Type 0} (f : X → Y) (test : X → Bool) (xs : List X) (old : List Y) → (if list_any test xs then [] else old) ++ map f (filter test xs) ≡ these_or (map f (filter test xs)) old
-turned {X} {Y} f test xs old = go (either_kept test xs)
-  where
-    go : ((filter test xs ≡ []) × (list_any test xs ≡ false)) ⊎ ((x : X) × (ys : List X) × (filter test xs ≡ x ∷ ys) × (list_any test xs ≡ true)) → (if list_any test xs then [] else old) ++ map f (filter test xs) ≡ these_or (map f (filter test xs)) old
-    go (inl (none, never)) = ap (λ b. (if b then [] else old) ++ map f (filter test xs)) never ∙ ap (λ ys. old ++ map f ys) none ∙ append-nil old ∙ sym (ap (λ ys. these_or (map f ys) old) none)
-    go (inr (x, ys, some, once)) = ap (λ b. (if b then [] else old) ++ map f (filter test xs)) once ∙ ap (map f) some ∙ sym (ap (λ ys. these_or (map f ys) old) some)
-
--- ---- of a list that is mapped
-
-pub filter-map : {X Y : Type 0} (g : X → Y) (test : Y → Bool) (xs : List X) → filter test (map g xs) ≡ map g (filter (λ x. test (g x)) xs)
-filter-map g test [] = refl
-filter-map {X} {Y} g test (x ∷ xs) = go (test (g x)) (filter-map g test xs)
-  where
-    go : (b : Bool) → filter test (map g xs) ≡ map g (filter (λ x. test (g x)) xs) → cond b (g x ∷ filter test (map g xs)) (filter test (map g xs)) ≡ map g (cond b (x ∷ filter (λ x. test (g x)) xs) (filter (λ x. test (g x)) xs))
-    go true e = ap (λ ys. g x ∷ ys) e
-    go false e = e
+-- ---- lists by their numbers
 
 -- a list by its number
 pub entry_at : {X : Type 0} (lists : List (List X)) (n place : ℕ) (x : List X) → 1 ≤ n → n ≤ length lists → place ≡ n - 1 → x ≡ get_or lists place x → entry [] lists n ≡ x

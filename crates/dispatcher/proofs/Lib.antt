@@ -3,6 +3,6 @@ mod Last
 mod Enough
 mod Ready
 mod Gathering
+mod Standing
 mod Entering
-mod Merging
 mod Knowing

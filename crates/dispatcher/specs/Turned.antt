@@ -1,66 +1,73 @@
 -- What a step does to the queues of sections.
-use Rattle.std.specs.Prelude.{◌≡◌, ℕ, Bool, ◌&&◌, ◌==◌, if◌then◌else◌, List, [], ◌∷◌, ◌++◌, filter, map, length}
+use Rattle.std.specs.Prelude.{◌≡◌, ℕ, ◌==◌, if◌then◌else◌, List, [], ◌∷◌, ◌++◌, filter, flat_map, length}
 use Rattle.std.specs.List.{list_all, list_any}
 use Rattle.rail_base.specs.declared.station.SectionNo.{SectionNo}
 use Rattle.rail_base.specs.declared.station.TrainNo.{TrainNo}
 use Rattle.rail_base.specs.declared.route.Route.{Route}
 use Rattle.rail_base.specs.declared.plan.Command.{Command}
-use Rattle.rail_base.specs.declared.state.TrainState.{TrainState}
+use Rattle.rail_base.specs.Members.{In}
 use Rattle.rail_base.specs.Numbering.{entry}
-use Rattle.rail_base.specs.Routes.{has_section, route_at, sections}
-use Rattle.rail_base.specs.declared.state.TrainEvent.{TrainEvent}
+use Rattle.rail_base.specs.Routes.{route_at, sections}
+use Rattle.rail_spec.specs.Plans.{is_train}
 use Rattle.rail_course.specs.declared.itineraries.Itineraries.{Itineraries}
-use Rattle.rail_course.specs.declared.journey.Release.{Release}
-use Rattle.dispatcher.specs.Queues.{on_section, queue_at, these_or}
-use Rattle.dispatcher.specs.Waits.{lets_pass, wait_in, wait_until}
-use Rattle.rail_spec.specs.Dispatches.{has_come}
+use Rattle.rail_course.specs.declared.waits.Wait.{Wait}
+use Rattle.rail_course.specs.Waits.{AddsWaits}
+use Rattle.dispatcher.specs.Queues.{are_of, on_section, queue_at}
+use Rattle.dispatcher.specs.Waits.{for_section, lets_pass, waits_at}
 
 -- a list of lists, where that of a number has an item more
 abbrev pub with_item : {X : Type 0} → ℕ → X → List (List X) → ℕ → List X
 with_item number item lists n = if number == n then entry [] lists n ++ item ∷ [] else entry [] lists n
 
+-- the waits for a train
+abbrev pub of_train : TrainNo → List Wait → List Wait
+of_train t ws = filter (λ w. is_train w.event.train t) ws
+
+-- a list of lists, where that of a number has the waits for one train alone
+abbrev pub with_train : ℕ → TrainNo → List (List Wait) → ℕ → List Wait
+with_train number t lists n = if number == n then of_train t (entry [] lists n) else entry [] lists n
+
 -- there is a queue for each section
-abbrev pub HasQueues : Itineraries → List (List TrainEvent) → Type 0
+abbrev pub HasQueues : Itineraries → List (List Wait) → Type 0
 HasQueues i queues = length queues ≡ length i.interlocking.now.design.station.sections
 
-module _ (queues : List (List TrainEvent)) (z : SectionNo) where
-  -- the queue of a section without those on it, where the route has the section
-  abbrev pub left_by : Route → List TrainEvent
-  left_by route = if has_section route z then [] else queue_at queues z
+module _ (queues : List (List Wait)) (z : SectionNo) where
+  -- the queue of a section as a train's command on these sections leaves it
+  abbrev pub left_by : TrainNo → List SectionNo → List Wait
+  left_by t zs = if list_any (λ y. y.0 == z.0) zs then of_train t (queue_at queues z) else queue_at queues z
 
-  -- with a train's releases of it
-  abbrev pub entered_by : TrainNo → List Release → List TrainEvent
-  entered_by train releases = queue_at queues z ++ map (wait_until train) (filter (λ r. r.section.0 == z.0) releases)
+  -- with those of the waits that are for the section
+  abbrev pub entered_by : List (SectionNo × Wait) → List Wait
+  entered_by ws = queue_at queues z ++ for_section z ws
 
   module _ (i : Itineraries) (step : List Command) where
-    -- without those on it, where a command of the step has it
-    abbrev pub left_by_step : List TrainEvent
-    left_by_step =
-        if list_any (λ c. has_section (route_at i.interlocking.now.routes c.route) z) step then [] else queue_at queues z
+    -- without the waits that a command of the step, of another train, follows on the section
+    abbrev pub left_by_step : List Wait
+    left_by_step = filter (λ w. are_of w.event.train (on_section i.interlocking.now.routes z step)) (queue_at queues z)
 
-    -- with the commands of the step that are on it
-    abbrev pub entered_by_step : List TrainEvent
-    entered_by_step = queue_at queues z ++ map (wait_in i z) (on_section i.interlocking.now.routes z step)
+    -- with the waits for the commands of the step
+    abbrev pub entered_by_step : List Wait
+    entered_by_step = queue_at queues z ++ flat_map (waits_at i z) (on_section i.interlocking.now.routes z step)
 
-    -- those of the step, where it has any on the section, or else those before
-    abbrev pub turned_by_step : List TrainEvent
-    turned_by_step = these_or (map (wait_in i z) (on_section i.interlocking.now.routes z step)) (queue_at queues z)
+    -- both
+    abbrev pub turned_by_step : List Wait
+    turned_by_step = left_by_step ++ flat_map (waits_at i z) (on_section i.interlocking.now.routes z step)
 
--- each queue has a train's releases of its section more
-abbrev pub AddsReleases : List (List TrainEvent) → List (List TrainEvent) → TrainNo → List Release → Type 0
-AddsReleases before after train releases = (z : SectionNo) → queue_at after z ≡ entered_by before z train releases
+-- each queue is as a train's command on these sections leaves it
+abbrev pub LeavesTrain : List (List Wait) → List (List Wait) → TrainNo → List SectionNo → Type 0
+LeavesTrain before after t zs = (z : SectionNo) → queue_at after z ≡ left_by before z t zs
 
--- the waits are over where they were before, and what more is asked is so
-abbrev pub AsksMore : List TrainEvent → List TrainEvent → (List TrainState → Bool) → Type 0
-AsksMore before after more = (s : List TrainState)
-    → list_all (has_come s) after ≡ (list_all (has_come s) before && more s)
+-- each queue has those of the waits that are for its section
+abbrev pub PutsWaits : List (List Wait) → List (List Wait) → List (SectionNo × Wait) → Type 0
+PutsWaits before after ws = (z : SectionNo) → queue_at after z ≡ entered_by before z ws
 
--- the waits are over where all queues on the command's route let its train pass
-abbrev pub AsksQueues : List Route → List (List TrainEvent) → Command → List TrainEvent → Type 0
-AsksQueues routes queues c own = (s : List TrainState) → list_all (has_come s) own
-    ≡ list_all (λ z. list_all (lets_pass s c.train) (queue_at queues z)) (sections (route_at routes c.route))
+-- the waits of a command are over where all queues on its route let its train pass, and stand in these queues
+abbrev pub AsksQueues : List Route → List (List Wait) → Command → List Wait → Type 0
+AsksQueues routes queues c own = AddsWaits [] own
+    (λ ps. list_all (λ z. list_all (lets_pass ps c.train) (queue_at queues z)) (sections (route_at routes c.route)))
+    (λ w. (z : SectionNo) × In z (sections (route_at routes c.route)) × In w (queue_at queues z))
 
-module _ (before after : List (List TrainEvent)) (i : Itineraries) (step : List Command) where
+module _ (before after : List (List Wait)) (i : Itineraries) (step : List Command) where
   -- each queue is as the step leaves it
   abbrev pub AreLeft : Type 0
   AreLeft = (z : SectionNo) → queue_at after z ≡ left_by_step before z i step

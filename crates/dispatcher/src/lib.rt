@@ -4,6 +4,7 @@
 mod enter;
 mod lists;
 mod planned;
+mod sections;
 mod turns;
 mod waits;
 

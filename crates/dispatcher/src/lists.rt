@@ -1,10 +1,12 @@
 //! Lists by number.
 
-ghost use Rattle.std.specs.Prelude.{◌≡◌, ℕ, ◌≤◌, [], ◌==◌, if◌then◌else◌, IfOk, OnOk, length};
+ghost use Rattle.std.specs.Prelude.{◌≡◌, ℕ, ◌≤◌, [], IfOk, OnOk, length};
 ghost use Rattle.rail_base.specs.Numbering.{entry};
-ghost use Rattle.dispatcher.specs.Turned.{with_item};
+ghost use Rattle.dispatcher.specs.Turned.{of_train, with_item, with_train};
 
 use rail_base::list::List;
+use rail_base::station::TrainNo;
+use rail_course::Wait;
 use std::alloc::{AllocError, Global};
 
 /// So many empty lists.
@@ -19,14 +21,21 @@ pub(crate) fn empty_lists<T: Drop>(alloc: Global, count: usize) -> Result<Vec<Li
     Ok(lists)
 }
 
-/// Empties the list of a number, counted from 1.
-pub(crate) fn empty<T: Drop>(lists: &mut Vec<List<T>>, alloc: Global, number: u32)
+/// Leaves in the list of a number, counted from 1, the waits for one train alone.
+pub(crate) fn keep(
+    lists: &mut Vec<List<Wait>>,
+    alloc: Global,
+    number: u32,
+    train: TrainNo,
+) -> Result<(), AllocError>
     requires at_least_one { 1 ≤ number }
     requires within { number ≤ length lists.old.items }
     ensures same_length { length lists.new.items ≡ length lists.old.items }
-    ensures empty { (n : ℕ) → entry [] lists.new.items n ≡ (if number == n then [] else entry [] lists.old.items n) }
+    ensures kept { OnOk result ((n : ℕ) → entry [] lists.new.items n ≡ with_train number train lists.old.items n) }
 {
-    lists[number as usize - 1] = List::new(alloc);
+    let kept = of_train(alloc, lists[number as usize - 1].as_slice(), train)?;
+    lists[number as usize - 1] = kept;
+    Ok(())
 }
 
 /// Puts an item at the end of the list of a number, counted from 1.
@@ -38,4 +47,17 @@ pub(crate) fn put<T: Drop>(lists: &mut Vec<List<T>>, number: u32, item: T) -> Re
 {
     lists[number as usize - 1].push(item)?;
     Ok(())
+}
+
+/// Those of some waits that are for a train.
+fn of_train(alloc: Global, waits: &[Wait], train: TrainNo) -> Result<List<Wait>, AllocError>
+    ensures { IfOk result (λ kept. kept ≡ of_train train waits.now) }
+{
+    let mut kept = List::new(alloc);
+    for wait in waits {
+        if wait.event.train == train {
+            kept.push(*wait)?;
+        }
+    }
+    Ok(kept)
 }

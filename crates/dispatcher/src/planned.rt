@@ -11,12 +11,11 @@ use crate::waits::waits_of;
 use interlocking::Interlocking;
 use rail_base::list::List;
 use rail_base::plan::{Command, Plan};
-use rail_base::state::TrainEvent;
-use rail_course::{PlannedJourneys, PlannedTrainPaths};
+use rail_course::{PlannedJourneys, PlannedTrainPaths, Wait};
 use std::alloc::{AllocError, Global};
 
 /// The waits of each command of a train's path.
-type Waits = List<Vec<TrainEvent>>;
+type Waits = List<Vec<Wait>>;
 
 /// The journeys that a plan gives the trains.
 ///
@@ -51,7 +50,7 @@ fn push_step(
     planned: &PlannedTrainPaths,
     alloc: Global,
     waits: &mut Vec<Waits>,
-    queues: &[List<TrainEvent>],
+    queues: &[List<Wait>],
     number: usize,
 ) -> Result<(), AllocError>
     requires number { number < length planned.now.plan.now.steps }

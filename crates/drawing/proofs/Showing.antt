@@ -2,7 +2,7 @@
 use Rattle.std.proofs.Common.{ℕ, inl, inr, List, [], ◌∷◌, ◌++◌, map, ap, sym, subst}
 use Rattle.rail_base.specs.Members.{In}
 use Rattle.drawing.specs.declared.shape.Shape.{Shape}
-use Rattle.drawing.specs.declared.shape.Shape.TheVariants.{Line, Bar, Dot, Words, Note}
+use Rattle.drawing.specs.declared.shape.Shape.TheVariants.{Line, Bar, Frame, Dot, Words, Note}
 use Rattle.drawing.specs.Lines.{end_line, shape_line, text_line}
 use Rattle.drawing.specs.Drawing.{drawing_of, words_in}
 use Rattle.drawing.specs.Laws.{Shows, WordsAreInLines}
@@ -20,6 +20,7 @@ verdict_at_horizon : (picture : List Shape) (text : List ℕ) → In text (words
 verdict_at_horizon [] text h = absurd h
 verdict_at_horizon (Line points color width ∷ rest) text h = behind _ _ text (verdict_at_horizon rest text h)
 verdict_at_horizon (Bar corner width height color ∷ rest) text h = behind _ _ text (verdict_at_horizon rest text h)
+verdict_at_horizon (Frame corner width height color ∷ rest) text h = behind _ _ text (verdict_at_horizon rest text h)
 verdict_at_horizon (Dot center radius color ∷ rest) text h = behind _ _ text (verdict_at_horizon rest text h)
 verdict_at_horizon (Note place anchor color other ∷ rest) text h = behind _ _ text (verdict_at_horizon rest text h)
 verdict_at_horizon (Words place anchor color own ∷ rest) text (inl is) = record { place = place; anchor = anchor; color = color; there = inl (ap (text_line place anchor color) is) }

@@ -3,13 +3,14 @@ use Rattle.std.specs.Prelude.{◌≡◌, ℕ, List, [], ◌∷◌, ◌++◌, map
 use Rattle.std.specs.List.{filter_map}
 use Rattle.drawing.specs.declared.shape.Point.{Point}
 use Rattle.drawing.specs.declared.shape.Shape.{Shape}
-use Rattle.drawing.specs.declared.shape.Shape.TheVariants.{Line, Bar, Dot, Words, Note}
+use Rattle.drawing.specs.declared.shape.Shape.TheVariants.{Line, Bar, Frame, Dot, Words, Note}
 use Rattle.drawing.specs.Lines.{end_line, ground_line, head_line, shape_line}
 
 -- the words of a shape
 abbrev pub shape_words : Shape → Option (List ℕ)
 shape_words (Line points color width) = None
 shape_words (Bar corner width height color) = None
+shape_words (Frame corner width height color) = None
 shape_words (Dot center radius color) = None
 shape_words (Words place anchor color text) = Some text
 shape_words (Note place anchor color text) = None

@@ -5,7 +5,7 @@ use Rattle.drawing.specs.declared.shape.Point.{Point}
 use Rattle.drawing.specs.declared.shape.Anchor.{Anchor}
 use Rattle.drawing.specs.declared.shape.Color.{Color}
 use Rattle.drawing.specs.declared.shape.Shape.{Shape}
-use Rattle.drawing.specs.declared.shape.Shape.TheVariants.{Line, Bar, Dot, Words, Note}
+use Rattle.drawing.specs.declared.shape.Shape.TheVariants.{Line, Bar, Frame, Dot, Words, Note}
 use Rattle.drawing.specs.Parts.{anchor_text, attribute, color_text, escaped, point_text}
 
 -- a line from point to point
@@ -20,6 +20,13 @@ bar_line corner width height color =
     codes "<rect" ++ attribute (codes "x") corner.x ++ attribute (codes "y") corner.y
     ++ attribute (codes "width") width ++ attribute (codes "height") height
     ++ codes " fill='" ++ color_text color ++ codes "'/>\n"
+
+-- an empty bar with a dashed outline
+abbrev pub frame_line : Point → ℕ → ℕ → Color → List ℕ
+frame_line corner width height color =
+    codes "<rect" ++ attribute (codes "x") corner.x ++ attribute (codes "y") corner.y
+    ++ attribute (codes "width") width ++ attribute (codes "height") height
+    ++ codes " fill='none' stroke-dasharray='3' stroke='" ++ color_text color ++ codes "'/>\n"
 
 -- a filled disc
 abbrev pub dot_line : Point → ℕ → Color → List ℕ
@@ -38,6 +45,7 @@ text_line place anchor color text =
 abbrev pub shape_line : Shape → List ℕ
 shape_line (Line points color width) = line_line points color width
 shape_line (Bar corner width height color) = bar_line corner width height color
+shape_line (Frame corner width height color) = frame_line corner width height color
 shape_line (Dot center radius color) = dot_line center radius color
 shape_line (Words place anchor color text) = text_line place anchor color text
 shape_line (Note place anchor color text) = text_line place anchor color text

@@ -14,5 +14,5 @@ mod size;
 
 pub use laws::{names_stay, words_are_in_lines};
 pub use lines::drawing_lines;
-pub use picture::{put_bar, put_dot, put_line, put_note, put_words};
+pub use picture::{put_bar, put_dot, put_frame, put_line, put_note, put_words};
 pub use shape::{Anchor, Color, Picture, Point, Shape, numbered_color};

@@ -2,8 +2,8 @@
 
 ghost use Rattle.std.specs.Prelude.{◌≡◌, IfOk};
 ghost use Rattle.rail_outside.specs.Lines.{lines_of};
-ghost use Rattle.drawing.specs.Lines.{bar_line, dot_line, end_line, ground_line, head_line, line_line, shape_line};
-ghost use Rattle.drawing.specs.Lines.{text_line};
+ghost use Rattle.drawing.specs.Lines.{bar_line, dot_line, end_line, frame_line, ground_line, head_line};
+ghost use Rattle.drawing.specs.Lines.{line_line, shape_line, text_line};
 ghost use Rattle.drawing.specs.Drawing.{IsDrawingOf, drawing_of};
 
 use crate::attributes::{anchor_text, put_attribute, put_color, put_escaped, put_points};
@@ -55,6 +55,27 @@ fn bar_line(
     put_attribute(&mut line, b"width", width)?;
     put_attribute(&mut line, b"height", height)?;
     line.extend_from_slice(b" fill='")?;
+    put_color(&mut line, color)?;
+    line.extend_from_slice(b"'/>\n")?;
+    Ok(line)
+}
+
+/// The line of an empty bar.
+fn frame_line(
+    alloc: Global,
+    corner: Point,
+    width: u64,
+    height: u64,
+    color: Color,
+) -> Result<Vec<u8>, AllocError>
+    ensures { IfOk result (λ line. line.items ≡ frame_line corner width height color) }
+{
+    let mut line = Vec::from_slice(alloc, b"<rect")?;
+    put_attribute(&mut line, b"x", corner.x)?;
+    put_attribute(&mut line, b"y", corner.y)?;
+    put_attribute(&mut line, b"width", width)?;
+    put_attribute(&mut line, b"height", height)?;
+    line.extend_from_slice(b" fill='none' stroke-dasharray='3' stroke='")?;
     put_color(&mut line, color)?;
     line.extend_from_slice(b"'/>\n")?;
     Ok(line)
@@ -113,6 +134,12 @@ fn shape_line(alloc: Global, shape: &Shape) -> Result<Vec<u8>, AllocError>
             height,
             color,
         } => bar_line(alloc, *corner, *width, *height, *color),
+        Shape::Frame {
+            corner,
+            width,
+            height,
+            color,
+        } => frame_line(alloc, *corner, *width, *height, *color),
         Shape::Dot {
             center,
             radius,

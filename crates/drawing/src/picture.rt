@@ -48,6 +48,28 @@ pub fn put_bar(
     })
 }
 
+/// Appends an empty bar with a dashed outline, by its left upper corner. `Err` is want of memory, and leaves the
+/// picture as it was.
+pub fn put_frame(
+    picture: &mut Picture,
+    corner: Point,
+    width: u64,
+    height: u64,
+    color: Color,
+) -> Result<(), AllocError>
+    ensures shape { OnOk result (picture.new ≡ picture.old ++ Shape.Frame corner width height color ∷ []) }
+    ensures words { OnOk result (words_in picture.new ≡ words_in picture.old) }
+    ensures size { OnOk result (length picture.new ≡ length picture.old + 1) }
+    ensures same { OnErr result (picture.new ≡ picture.old) }
+{
+    picture.push(Shape::Frame {
+        corner,
+        width,
+        height,
+        color,
+    })
+}
+
 /// Appends a filled disc. `Err` is want of memory, and leaves the picture as it was.
 pub fn put_dot(
     picture: &mut Picture,

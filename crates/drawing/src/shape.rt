@@ -50,6 +50,13 @@ pub enum Shape {
         height: u64,
         color: Color,
     },
+    /// An empty bar with a dashed outline, by its left upper corner.
+    Frame {
+        corner: Point,
+        width: u64,
+        height: u64,
+        color: Color,
+    },
     /// A filled disc.
     Dot {
         center: Point,

@@ -51,6 +51,14 @@ fn text_end(place: Point, anchor: Anchor, text: &[u8]) -> Point {
     }
 }
 
+/// The right lower corner of a bar.
+fn bar_end(corner: Point, width: u64, height: u64) -> Point {
+    Point {
+        x: corner.x.saturating_add(width),
+        y: corner.y.saturating_add(height),
+    }
+}
+
 /// How far a shape comes to the right and below.
 fn shape_end(shape: &Shape) -> Point {
     match shape {
@@ -60,10 +68,13 @@ fn shape_end(shape: &Shape) -> Point {
             width,
             height,
             ..
-        } => Point {
-            x: corner.x.saturating_add(*width),
-            y: corner.y.saturating_add(*height),
-        },
+        } => bar_end(*corner, *width, *height),
+        Shape::Frame {
+            corner,
+            width,
+            height,
+            ..
+        } => bar_end(*corner, *width, *height),
         Shape::Dot { center, radius, .. } => Point {
             x: center.x.saturating_add(*radius),
             y: center.y.saturating_add(*radius),

@@ -4,7 +4,7 @@ use Rattle.rail_base.specs.declared.station.Station.{Station}
 use Rattle.rail_base.specs.declared.station.TrainNo.{TrainNo}
 use Rattle.rail_base.specs.declared.route.Route.{Route}
 use Rattle.rail_base.specs.declared.route.RouteNo.{RouteNo}
-use Rattle.rail_base.specs.Routes.{route_at, shared}
+use Rattle.rail_base.specs.Routes.{own_shared, route_at}
 use Rattle.rail_base.specs.Stations.{horizon, order_of, within_of}
 use Rattle.rail_spec.specs.Requirements.{most_ticks}
 use Rattle.bound_spec.specs.declared.Requirement.{Requirement}
@@ -106,9 +106,9 @@ only [] = None
 only (r ∷ []) = Some r
 only (r ∷ s ∷ rs) = None
 
--- the sections that two routes share, or that they share some where more than one can be either of the two
+-- the own sections of the one route that the other has; only that they share some where either may be one of more
 abbrev pub meeting_text : Station → List Route → Option RouteNo → Option RouteNo → List ℕ
-meeting_text d routes (Some r) (Some q) = sections_text d (shared (route_at routes r) (route_at routes q))
+meeting_text d routes (Some r) (Some q) = sections_text d (own_shared (route_at routes r) (route_at routes q))
 meeting_text d routes (Some r) None = codes "what the two routes share"
 meeting_text d routes None q = codes "what the two routes share"
 

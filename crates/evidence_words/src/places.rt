@@ -9,7 +9,7 @@ ghost use Rattle.evidence_words.specs.Ends.{said_of_meeting};
 ghost use Rattle.interlocking.specs.Plans.{on};
 
 use bound_spec::{Leg, Place, routes_of};
-use cone_words::{put_any_route, put_shared};
+use cone_words::{put_any_route, put_own_shared};
 use interlocking::Interlocking;
 use rail_base::names::train_name;
 use rail_base::route::RouteNo;
@@ -29,7 +29,7 @@ pub fn leg_text(
     Ok(text)
 }
 
-/// Appends the sections that two routes share, where there is just one of each.
+/// Appends the sections that the one route goes over and the other has, where there is just one of each.
 pub fn put_meeting(
     alloc: Global,
     text: &mut Vec<u8>,
@@ -45,7 +45,7 @@ pub fn put_meeting(
     let Some(other) = only(first) else {
         return text.extend_from_slice(b"what the two routes share");
     };
-    put_shared(
+    put_own_shared(
         alloc,
         text,
         &interlocking.design,

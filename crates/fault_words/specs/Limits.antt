@@ -137,7 +137,7 @@ dwells_words visits (Some dwells) =
 
 -- a number at the top, or how many entries there are
 abbrev pub top_words : ParsedSheet → Key → List ℕ
-top_words s keys.Version = number_words keys.Version s.version 1 3
+top_words s keys.Version = number_words keys.Version s.version 1 4
 top_words s keys.TickMs = number_words keys.TickMs s.tick_ms 100 1000
 top_words s keys.HorizonMs = horizon_words s
 top_words s keys.Node = count_words s kinds.Node

@@ -189,7 +189,7 @@ pub(crate) fn put_top(text: &mut Vec<u8>, sheet: &Sheet, key: Key) -> Result<(),
     ensures { OnOk result (AddsText text.old text.new (top_words (sheet_seen sheet.now) key)) }
 {
     match key {
-        Key::Version => put_number_words(text, key, sheet.version, 1, 3),
+        Key::Version => put_number_words(text, key, sheet.version, 1, 4),
         Key::TickMs => put_number_words(text, key, sheet.tick_ms, 100, 1000),
         Key::HorizonMs => put_horizon(text, sheet),
         Key::Node => put_count(text, sheet, EntryKind::Node),

@@ -10,7 +10,7 @@ use Rattle.rail_spec.specs.Track.{routes_of}
 use Rattle.rail_spec.specs.Plans.{path_routes, is_well_formed}
 use Rattle.rail_spec.specs.Motion.{permitted, next_speed, reach}
 use Rattle.rail_spec.specs.Dispatches.{state_of, rates, stretches, of_plan, granted_after, moved, with_granted, authority}
-use Rattle.rail_spec.specs.Dispatches.{state_at}
+use Rattle.rail_spec.specs.Dispatches.{pasts_at, state_at}
 use Rattle.rail_laws.proofs.Exclusion.{by_tick}
 
 greatest_within : (test : ℕ → Bool) (n : ℕ) → greatest test n ≤ n
@@ -41,7 +41,7 @@ module _ (d : Station) (adm : IsAdmitted d) (n : ℕ) (plan : List (List Command
   Gains a old new = ((new.x ≡ old.x + new.v) × (new.v ≤ old.v + a)) ⊎ ((new.x ≡ old.x) × (new.v ≡ old.v))
 
   gains : (k : ℕ) (t : TrainNo) → Gains (rates d t).accel (at k t) (at (suc k) t)
-  gains k t = by_tick d (routes_of d) plan (Gains (rates d t).accel) k t (inr (refl, refl)) (λ low high. one (at k t) (granted_after d (routes_of d) (of_plan (routes_of d) plan) (state_at d (routes_of d) (of_plan (routes_of d) plan) k) t))
+  gains k t = by_tick d (routes_of d) plan (Gains (rates d t).accel) k t (inr (refl, refl)) (λ low high. one (at k t) (granted_after d (routes_of d) (of_plan (routes_of d) plan) (pasts_at d (routes_of d) (of_plan (routes_of d) plan) k) t))
     where
       one : (old : TrainState) (g : ℕ) → Gains (rates d t).accel old (moved d (routes_of d) (of_plan (routes_of d) plan) t old g)
       one old zero = inr (refl, refl)

@@ -14,7 +14,7 @@ use Rattle.rail_base.specs.Stations.{length_of, IsTrain}
 use Rattle.rail_spec.specs.Track.{edge_ends, routes_of}
 use Rattle.rail_spec.specs.Plans.{path_routes, length_mm, exits, is_well_formed}
 use Rattle.rail_spec.specs.Motion.{may_stop}
-use Rattle.rail_spec.specs.Dispatches.{state_of, stretch, stretches, of_plan, granted_after, state_at}
+use Rattle.rail_spec.specs.Dispatches.{state_of, stretch, stretches, of_plan, granted_after, pasts_at, state_at}
 use Rattle.rail_laws.proofs.UnderWay.{IsSound, edge_ends-append, authority_some, next_grants, travels, within_track, further}
 use Rattle.rail_laws.proofs.Admits.{sound}
 use Rattle.rail_laws.proofs.Running.{run_up_to, granted_at_most}
@@ -85,9 +85,9 @@ module _ (d : Station) (adm : IsAdmitted d) (n : ℕ) (plan : List (List Command
       let e = at_most_next (k + c) in
       omega arith
     where
-      at_most_next : (i : ℕ) → granted_after d (routes_of d) (of_plan (routes_of d) plan) (state_at d (routes_of d) (of_plan (routes_of d) plan) i) t ≤ (at i t).granted + 1
-      at_most_next i = one (next_grants d (routes_of d) plan (state_at d (routes_of d) (of_plan (routes_of d) plan) i) t)
+      at_most_next : (i : ℕ) → granted_after d (routes_of d) (of_plan (routes_of d) plan) (pasts_at d (routes_of d) (of_plan (routes_of d) plan) i) t ≤ (at i t).granted + 1
+      at_most_next i = one (next_grants d (routes_of d) plan (pasts_at d (routes_of d) (of_plan (routes_of d) plan) i) t)
         where
-          one : (granted_after d (routes_of d) (of_plan (routes_of d) plan) (state_at d (routes_of d) (of_plan (routes_of d) plan) i) t ≡ (at i t).granted) ⊎ (granted_after d (routes_of d) (of_plan (routes_of d) plan) (state_at d (routes_of d) (of_plan (routes_of d) plan) i) t ≡ (at i t).granted + 1) → granted_after d (routes_of d) (of_plan (routes_of d) plan) (state_at d (routes_of d) (of_plan (routes_of d) plan) i) t ≤ (at i t).granted + 1
+          one : (granted_after d (routes_of d) (of_plan (routes_of d) plan) (pasts_at d (routes_of d) (of_plan (routes_of d) plan) i) t ≡ (at i t).granted) ⊎ (granted_after d (routes_of d) (of_plan (routes_of d) plan) (pasts_at d (routes_of d) (of_plan (routes_of d) plan) i) t ≡ (at i t).granted + 1) → granted_after d (routes_of d) (of_plan (routes_of d) plan) (pasts_at d (routes_of d) (of_plan (routes_of d) plan) i) t ≤ (at i t).granted + 1
           one (inl e) = omega arith
           one (inr e) = omega arith

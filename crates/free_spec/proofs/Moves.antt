@@ -15,7 +15,7 @@ use Rattle.rail_spec.specs.Track.{edge_ends, routes_of}
 use Rattle.rail_spec.specs.Plans.{path_routes, length_mm, exits, is_well_formed}
 use Rattle.rail_spec.specs.Motion.{SpanSeen, limit_at, KeepsLimits, keeps_limits, may_stop, can_brake, permitted, next_speed}
 use Rattle.rail_spec.specs.Dispatches.{state_of, rates, stretch, stretches, of_plan, granted_after, moved, track_end, with_granted, authority}
-use Rattle.rail_spec.specs.Dispatches.{state_at}
+use Rattle.rail_spec.specs.Dispatches.{pasts_at, state_at}
 use Rattle.rail_base.proofs.Members.{and_right, and_both}
 use Rattle.rail_laws.proofs.MotionLaws.{farthest, keeps_limits_from, can_brake-stop, can_brake_keeps, can_brake_slower, permitted_reach, permitted_brakes, permitted_further, next_speed_permitted}
 use Rattle.rail_laws.proofs.Exclusion.{by_tick}
@@ -181,7 +181,7 @@ module _ (d : Station) (adm : IsAdmitted d) (n : ℕ) (plan : List (List Command
   Step t old new = ((new.x ≡ old.x) × (new.v ≡ old.v)) ⊎ Moves t old new
 
   pub stepped : (k : ℕ) (t : TrainNo) → Step t (at k t) (at (suc k) t)
-  stepped k t = by_tick d (routes_of d) plan (Step t) k t (inl (refl, refl)) (λ low high. one (low, high) (at k t) (granted_after d (routes_of d) (of_plan (routes_of d) plan) (state_at d (routes_of d) (of_plan (routes_of d) plan) k) t) (travels d (routes_of d) plan is_sound k t) (next_grants d (routes_of d) plan (state_at d (routes_of d) (of_plan (routes_of d) plan) k) t))
+  stepped k t = by_tick d (routes_of d) plan (Step t) k t (inl (refl, refl)) (λ low high. one (low, high) (at k t) (granted_after d (routes_of d) (of_plan (routes_of d) plan) (pasts_at d (routes_of d) (of_plan (routes_of d) plan) k) t) (travels d (routes_of d) plan is_sound k t) (next_grants d (routes_of d) plan (pasts_at d (routes_of d) (of_plan (routes_of d) plan) k) t))
     where
       one : IsTrain d t → (old : TrainState) (g : ℕ) → Travels d (routes_of d) plan t old → (g ≡ old.granted) ⊎ (g ≡ old.granted + 1) → Step t old (moved d (routes_of d) (of_plan (routes_of d) plan) t old g)
       one named old zero h e = inl (refl, refl)

@@ -63,9 +63,9 @@ or_false : (a : Bool) → (a || false) ≡ true → a ≡ true
 or_false true h = refl
 or_false false h = h
 
-version_most : (z : ℤ) (place : Place) → unless_from 1 3 z place ≡ [] → int_le z (pos 3) ≡ true
+version_most : (z : ℤ) (place : Place) → unless_from 1 4 z place ≡ [] → int_le z (pos 4) ≡ true
 unfolding unless_from
-version_most z place h = and_right (int_le (pos 1) z) (int_le z (pos 3)) (passes (int_le (pos 1) z && int_le z (pos 3)) place h)
+version_most z place h = and_right (int_le (pos 1) z) (int_le z (pos 4)) (passes (int_le (pos 1) z && int_le z (pos 4)) place h)
 
 or_right_false : (a b : Bool) → (a || b) ≡ false → b ≡ false
 or_right_false false b h = h
@@ -289,8 +289,8 @@ module _ (s : ParsedSheet) (named : IsSpelled s) (d03 : repeated_names s ≡ [])
     where
       go : (b : Bool) → int_le (pos 4) s.version ≡ b → (b || (length s.overlaps == 0)) ≡ true → nat_le (length d.overlaps) (most_overlaps d) ≡ true
       go true e spelled =
-          let high = version_most s.version (Top keys.Version) (no_left (unless_from 1 3 s.version (Top keys.Version)) _ outside_times) in
-          let fourth = and_left (nat_le 4 d.version) (nat_le d.version 3) (in_range 4 3 s.version (omega arith) (and_both (int_le (pos 4) s.version) (int_le s.version (pos 3)) e high)) in
+          let high = version_most s.version (Top keys.Version) (no_left (unless_from 1 4 s.version (Top keys.Version)) _ outside_times) in
+          let fourth = and_left (nat_le 4 d.version) (nat_le d.version 4) (in_range 4 4 s.version (omega arith) (and_both (int_le (pos 4) s.version) (int_le s.version (pos 4)) e high)) in
           let many = and_right (nat_le 0 (length d.overlaps)) (nat_le (length d.overlaps) 1000) (few (overlap_in names) 0 1000 keys.Overlap s.overlaps (array_count overlap_outside 0 1000 keys.Overlap s.overlaps few_overlaps)) in
           rw fourth many
       go false e spelled =
@@ -347,14 +347,14 @@ module _ (s : ParsedSheet) (named : IsSpelled s) (d03 : repeated_names s ≡ [])
     all_timed : is_timed d ≡ true
     unfolding times_outside
     all_timed =
-        let version = unless_from 1 3 s.version (Top keys.Version) in
+        let version = unless_from 1 4 s.version (Top keys.Version) in
         let tick = unless_from 100 1000 s.tick_ms (Top keys.TickMs) in
         let late = at (not (is_horizon s.horizon_ms s.tick_ms)) (Top keys.HorizonMs) in
         let v = no_left version (tick ++ late) outside_times in
         let t = no_left tick late (no_right version (tick ++ late) outside_times) in
         let l = no_right tick late (no_right version (tick ++ late) outside_times) in
-        and_three (is_from 1 3 d.version) (is_from 100 1000 d.tick_ms) (is_from 1 86400 (horizon d))
-        (ranged 1 3 s.version (Top keys.Version) (omega arith) v)
+        and_three (is_from 1 4 d.version) (is_from 100 1000 d.tick_ms) (is_from 1 86400 (horizon d))
+        (ranged 1 4 s.version (Top keys.Version) (omega arith) v)
         (ranged 100 1000 s.tick_ms (Top keys.TickMs) (omega arith) t)
         (horizon_in s.horizon_ms s.tick_ms (Top keys.HorizonMs) (Top keys.TickMs) (Top keys.HorizonMs) t l one_tick)
 
@@ -454,15 +454,15 @@ module _ (s : ParsedSheet) (named : IsSpelled s) (d03 : repeated_names s ≡ [])
         number : List ℕ → NodeNo
         number name = record { 0 = number_in names.nodes name }
 
-    -- the version is 3 where it is said how long a train stands
+    -- the version is 3 or 4 where it is said how long a train stands
     an_hour : (said : Bool) → (int_le (pos 3) s.version || said) ≡ true → said ≡ false → 3600000 ≤ longest_dwell d
     unfolding times_outside
     an_hour true spelled h = absurd (cc)
     an_hour false spelled h =
-        let version = unless_from 1 3 s.version (Top keys.Version) in
+        let version = unless_from 1 4 s.version (Top keys.Version) in
         let low = or_false (int_le (pos 3) s.version) spelled in
         let high = version_most s.version (Top keys.Version) (no_left version _ outside_times) in
-        let third = and_left (nat_le 3 d.version) (nat_le d.version 3) (in_range 3 3 s.version (omega arith) (and_both (int_le (pos 3) s.version) (int_le s.version (pos 3)) low high)) in
+        let third = and_left (nat_le 3 d.version) (nat_le d.version 4) (in_range 3 4 s.version (omega arith) (and_both (int_le (pos 3) s.version) (int_le s.version (pos 4)) low high)) in
         rw third (omega arith)
 
     good_train : (x : ParsedTrain) → In x s.trains → is_good_train d (train_in names x) ≡ true

@@ -97,7 +97,7 @@ name_needed version kind i ms key m h = good_name (found key ms) (column_right v
 
 -- a document that knows what a later version has names it or one after it
 since : (k : ℕ) (z : ℤ) → nat_le (suc k) (version_number z) ≡ true → int_le (pos (suc k)) z ≡ true
-since k (pos n) h = go (nat_le n 3) h
+since k (pos n) h = go (nat_le n 4) h
   where
     go : (b : Bool) → nat_le (suc k) (if b then n else 0) ≡ true → nat_le (suc k) n ≡ true
     go true h = h

@@ -112,7 +112,7 @@ is_horizon horizon_ms tick_ms = int_le (pos 1) horizon_ms && nat_le (nat_abs hor
 -- the version, the tick in ms and the horizon
 unfoldable pub times_outside : ParsedSheet → List Place
 times_outside s =
-    unless_from 1 3 s.version (Top keys.Version)
+    unless_from 1 4 s.version (Top keys.Version)
     ++ (unless_from 100 1000 s.tick_ms (Top keys.TickMs)
     ++ at (not (is_horizon s.horizon_ms s.tick_ms)) (Top keys.HorizonMs))
 

@@ -262,7 +262,7 @@ fn is_horizon(horizon_ms: i64, tick_ms: i64) -> bool
 fn refuse_times(sheet: &Sheet) -> Result<(), DesignFault>
     ensures { ReadsOrRefuses (λ x. x) result Code.D05 (times_outside (sheet_seen sheet.now)) tt }
 {
-    refuse_unless_from(1, 3, sheet.version, Place::Top(Key::Version))?;
+    refuse_unless_from(1, 4, sheet.version, Place::Top(Key::Version))?;
     refuse_unless_from(100, 1000, sheet.tick_ms, Place::Top(Key::TickMs))?;
     let is_good = is_horizon(sheet.horizon_ms, sheet.tick_ms);
     refuse_unless(is_good, Place::Top(Key::HorizonMs))

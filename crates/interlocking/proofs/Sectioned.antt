@@ -1,5 +1,5 @@
 -- The sections that routes share, by their sets.
-use Rattle.std.proofs.Common.{◌≡◌, ℕ, zero, suc, ℤ, ◌+◌, ◌-◌, ◌<◌, ◌≤◌, ◌⊎◌, inl, inr, Bool, true, false, ◌||◌, ◌==◌, eqb, List, map, filter, fold, max, length, get_or, take, refl, sym, ap, ap₂, ◌∙◌, arith, eqb-true, eq-eqb}
+use Rattle.std.proofs.Common.{◌≡◌, ℕ, zero, suc, ℤ, ◌+◌, ◌-◌, ◌<◌, ◌≤◌, ◌⊎◌, inl, inr, Bool, true, false, ◌||◌, ◌==◌, eqb, List, map, filter, fold, max, length, get_or, take, refl, sym, ap, ap₂, ◌∙◌, arith, eqb-true, eq-eqb, take_all}
 use Rattle.std.specs.Prelude.{nat_abs}
 use Rattle.std.specs.List.{list_any}
 use Rattle.std.proofs.lemmas.Bool.{cases_eq, ne_eqb, false_from_ne_true}
@@ -8,10 +8,11 @@ use Rattle.rail_base.specs.declared.station.SectionNo.{SectionNo}
 use Rattle.rail_base.specs.declared.route.Route.{Route}
 use Rattle.rail_base.specs.Members.{In}
 use Rattle.rail_base.specs.Numbering.{entry}
-use Rattle.rail_base.specs.Routes.{has_section, sections, share, shared, release_offset}
+use Rattle.rail_base.specs.Routes.{has_section, own_sections, own_shared, release_offset, sections, share}
 use Rattle.rail_base.proofs.Lists.{in_map, in_map_back, in_filter_back}
 use Rattle.rail_base.proofs.Members.{in_filter, list_any_from, list_any_gives}
 use Rattle.rail_laws.proofs.AsEdges.{fold_above, fold_reached}
+use Rattle.rail_base.proofs.Sharing.{has_when_in, in_sections}
 use Rattle.number_sets.specs.declared.set.NumberSet.{NumberSet}
 use Rattle.number_sets.specs.Sets.{contains}
 use Rattle.interlocking.specs.Sections.{IsSectionSet, last_release}
@@ -32,19 +33,33 @@ one_more key xs i k d new old h e f =
     ∙ (ap₂ (λ a b. a || b) f (eqb_turned k (key (get_or xs i d)))
     ∙ sym (list_any_more (λ x. key x == k) xs i d h)))
 
+-- and beside what was there
+pub one_more_beside : {X : Type 0} (key : X → ℕ) (xs : List X) (i k : ℕ) (d : X) (new old there : Bool) → i < length xs → new ≡ (k == key (get_or xs i d) || old) → old ≡ (there || list_any (λ x. key x == k) (take i xs)) → new ≡ (there || list_any (λ x. key x == k) (take (i + 1) xs))
+one_more_beside key xs i k d new old there h e f = e ∙ step there f
+  where
+    step : (there : Bool) → old ≡ (there || list_any (λ x. key x == k) (take i xs)) → (k == key (get_or xs i d) || old) ≡ (there || list_any (λ x. key x == k) (take (i + 1) xs))
+    step true f = ap (λ b. k == key (get_or xs i d) || b) f ∙ or_turned (k == key (get_or xs i d)) true
+    step false f = one_more key xs i k d (k == key (get_or xs i d) || old) old h refl f
+
+-- once all are taken
+pub all_taken : {X : Type 0} (test : X → Bool) (xs ys : List X) (i : ℕ) (b there : Bool) → length xs ≤ i → xs ≡ ys → b ≡ (there || list_any test (take i xs)) → b ≡ (there || list_any test ys)
+all_taken test xs ys i b there h e f = f ∙ ap (λ zs. there || list_any test zs) (take_all i xs h ∙ e)
+
+pub nothing_beside : (a b : Bool) → a ≡ b → a ≡ (b || false)
+nothing_beside a true h = h
+nothing_beside a false h = h
+
 -- routes share a section where the sets of their sections have a number in common
 pub share_is : (r q : Route) (one other : NumberSet) (b : Bool) → IsSectionSet one r → IsSectionSet other q
     → (b ≡ true → (k : ℕ) × (contains one k ≡ true) × (contains other k ≡ true)) → (b ≡ false → (k : ℕ) → contains one k ≡ true → contains other k ≡ false) → b ≡ share r q
 share_is r q one other true e f some none =
     let k = some refl in
     let number : SectionNo = record { 0 = k.0 } in
-    let found = list_any_gives (λ (p : SectionNo × ℤ). p.0.0 == k.0) r.sections (sym (e number) ∙ k.1) in
-    let same : found.0.0.0 ≡ k.0 = eqb-true found.0.0.0 k.0 found.2 in
-    sym (list_any_from (λ p. has_section q p.0) r.sections found.0 found.1 (sym (f found.0.0) ∙ (ap (contains other) same ∙ k.2)))
+    sym (list_any_from (has_section q) (sections r) number (in_sections r number (sym (e number) ∙ k.1)) (sym (f number) ∙ k.2))
 share_is r q one other false e f some none = sym (false_from_ne_true (share r q) (λ h.
-    let found = list_any_gives (λ (p : SectionNo × ℤ). has_section q p.0) r.sections h in
-    let z = found.0.0 in
-    let own : contains one z.0 ≡ true = e z ∙ list_any_from (λ (p : SectionNo × ℤ). p.0.0 == z.0) r.sections found.0 found.1 (eq-eqb z.0 z.0 refl) in
+    let found = list_any_gives (has_section q) (sections r) h in
+    let z = found.0 in
+    let own : contains one z.0 ≡ true = e z ∙ has_when_in r z found.1 in
     let its : contains other z.0 ≡ true = f z ∙ found.2 in
     let not_its : contains other z.0 ≡ false = none refl z.0 own in
     absurd (cc)))
@@ -68,9 +83,9 @@ module _ (r q : Route) (set : NumberSet) (is : IsSectionSet set q) where
   low : (p : SectionNo × ℤ) → In p r.sections → kept p ≡ true → offset p ≤ last_release r q
   low p m k =
       let own = in_map (λ (s : SectionNo × ℤ). s.0) r.sections p m in
-      let both = in_filter (has_section q) (sections r) p.0 own (sym (is p.0) ∙ k) in
+      let both = in_filter (has_section q) (own_sections r) p.0 own (sym (is p.0) ∙ k) in
       let a = below_release p m in
-      let b = fold_above 0 (map (release_offset r) (shared r q)) (release_offset r p.0) (in_map (release_offset r) (shared r q) p.0 both) in
+      let b = fold_above 0 (map (release_offset r) (own_shared r q)) (release_offset r p.0) (in_map (release_offset r) (own_shared r q) p.0 both) in
       omega arith
 
   -- and a bound of them is one of these releases
@@ -96,7 +111,7 @@ module _ (r q : Route) (set : NumberSet) (is : IsSectionSet set q) where
   pub last_release_is : fold max 0 (map (λ (p : SectionNo × ℤ). nat_abs p.1) (filter (λ (p : SectionNo × ℤ). contains set p.0.0) r.sections)) ≡ last_release r q
   last_release_is =
       let a = no_later (fold_reached 0 (map offset (filter kept r.sections))) in
-      let b = no_earlier (fold_reached 0 (map (release_offset r) (shared r q))) in
+      let b = no_earlier (fold_reached 0 (map (release_offset r) (own_shared r q))) in
       omega arith
     where
       no_later : (greatest ≡ 0) ⊎ In greatest (map offset (filter kept r.sections)) → greatest ≤ last_release r q
@@ -108,11 +123,11 @@ module _ (r q : Route) (set : NumberSet) (is : IsSectionSet set q) where
           let e = at.2 in
           omega arith
 
-      no_earlier : (last_release r q ≡ 0) ⊎ In (last_release r q) (map (release_offset r) (shared r q)) → last_release r q ≤ greatest
+      no_earlier : (last_release r q ≡ 0) ⊎ In (last_release r q) (map (release_offset r) (own_shared r q)) → last_release r q ≤ greatest
       no_earlier (inl e) = omega arith
       no_earlier (inr i) =
-          let z = in_map_back (release_offset r) (shared r q) (last_release r q) i in
-          let both = in_filter_back (has_section q) (sections r) z.0 z.1 in
+          let z = in_map_back (release_offset r) (own_shared r q) (last_release r q) i in
+          let both = in_filter_back (has_section q) (own_sections r) z.0 z.1 in
           let l = high greatest above z.0 both.1 in
           let e = z.2 in
           omega arith

@@ -50,7 +50,7 @@ impl Interlocking {
         &self.sets[number.0 as usize - 1]
     }
 
-    /// Whether a route goes over a section.
+    /// Whether a route has a section, as its own or of the overlap at its end.
     pub fn has_section(&self, number: RouteNo, section: SectionNo) -> bool
         requires { IsRoute self.now.routes number }
         ensures { result ≡ has_section (route_at self.now.routes number) section }
@@ -67,7 +67,7 @@ impl Interlocking {
         self.sections(one).meets(self.sections(other))
     }
 
-    /// Where a route has released all sections that another has too, in mm from its start.
+    /// Where a route has released all its own sections that another has too, in mm from its start.
     pub fn last_release(&self, one: RouteNo, other: RouteNo) -> u64
         requires one { IsRoute self.now.routes one }
         requires other { IsRoute self.now.routes other }
@@ -77,7 +77,7 @@ impl Interlocking {
     }
 }
 
-/// Where a route has released all of its sections that are in a set, in mm from its start.
+/// Where a route has released all of its own sections that are in a set, in mm from its start.
 fn last_release_of(route: &Route, set: &NumberSet) -> u64
     ensures { result ≡ fold max 0 (map (λ p. nat_abs p.1) (filter (λ p. contains set.now p.0.0) route.now.sections)) }
 {

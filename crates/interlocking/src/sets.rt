@@ -18,13 +18,16 @@ pub(crate) fn section_sets(alloc: Global, routes: &RouteTable) -> Result<Vec<Num
     Ok(sets)
 }
 
-/// The set of a route's sections.
+/// The set of a route's sections, those of its overlap among them.
 fn section_set(alloc: Global, route: &Route) -> Result<NumberSet, AllocError>
     ensures { IfOk result (λ set. IsSectionSet set route.now) }
 {
     let mut set = NumberSet::new(alloc);
     for part in route.sections.as_slice() {
         set.add(part.0.0)?;
+    }
+    for held in route.overlaps.as_slice() {
+        set.add(held.section.0)?;
     }
     Ok(set)
 }

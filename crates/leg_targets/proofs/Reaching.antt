@@ -6,7 +6,7 @@ use Rattle.rail_base.specs.declared.station.Station.{Station}
 use Rattle.rail_base.specs.declared.route.Route.{Route}
 use Rattle.rail_base.specs.declared.route.RouteNo.{RouteNo}
 use Rattle.rail_base.specs.Numbering.{after_first}
-use Rattle.rail_base.specs.Routes.{no_route, route_at, length_mm, release_offset, shared}
+use Rattle.rail_base.specs.Routes.{no_route, route_at, length_mm, release_offset, own_shared}
 use Rattle.rail_base.proofs.Admitting.{admitted}
 use Rattle.interlocking.specs.declared.railway.Interlocking.{Interlocking}
 use Rattle.rail_spec.specs.Track.{routes_of}
@@ -26,14 +26,14 @@ module _ (i : Interlocking) where
   short_at r = subst (λ routes. length_mm (route_at routes r) ≤ 40000000000) (sym i.table)
       (entry_is (λ (q : Route). length_mm q ≤ 40000000000) no_route (routes_of i.design.station) r.0 (omega arith) (short_route i.design.station (admitted i.design.station i.design.admitted)))
 
-  pub release_near : (r : RouteNo) (q : Route) → greatest_of (release_offset (route_at i.routes r)) (shared (route_at i.routes r) q) ≤ 40000000000
-  release_near r q = greatest_most (release_offset (route_at i.routes r)) 40000000000 (shared (route_at i.routes r) q) (λ z. le_trans (((laid_out i).each r).releases z) (short_at r))
+  pub release_near : (r : RouteNo) (q : Route) → greatest_of (release_offset (route_at i.routes r)) (own_shared (route_at i.routes r) q) ≤ 40000000000
+  release_near r q = greatest_most (release_offset (route_at i.routes r)) 40000000000 (own_shared (route_at i.routes r) q) (λ z. le_trans (((laid_out i).each r).releases z) (short_at r))
 
   pub length_by : (n : ℕ) (r : RouteNo) (q : Route) → n ≡ length_mm q → q ≡ route_at i.routes r → n ≤ 40000000000
   length_by n r q e f = let s = short_at r in let g = e ∙ ap length_mm f in omega arith
 
-  pub release_by : (n : ℕ) (r : RouteNo) (e q : Route) → n ≡ greatest_of (release_offset e) (shared e q) → e ≡ route_at i.routes r → n ≤ 40000000000
-  release_by n r e q h f = let s = release_near r q in let g = h ∙ ap (λ z. greatest_of (release_offset z) (shared z q)) f in omega arith
+  pub release_by : (n : ℕ) (r : RouteNo) (e q : Route) → n ≡ greatest_of (release_offset e) (own_shared e q) → e ≡ route_at i.routes r → n ≤ 40000000000
+  release_by n r e q h f = let s = release_near r q in let g = h ∙ ap (λ z. greatest_of (release_offset z) (own_shared z q)) f in omega arith
 
   first_near : (m : ℕ) (set : List NodeNo) (ns : List (NodeNo × ℤ)) → All (λ p. nat_abs p.1 ≤ m) ns → first_in set ns ≤ m
   first_near m set [] h = omega arith

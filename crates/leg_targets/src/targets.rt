@@ -3,7 +3,7 @@
 ghost use Rattle.std.specs.Prelude.{◌≡◌, ◌≤◌, ◌+◌, ◌*◌, All, length};
 ghost use Rattle.rail_base.specs.declared.station.NodeNo.{NodeNo};
 ghost use Rattle.rail_base.specs.Numbering.{after_first};
-ghost use Rattle.rail_base.specs.Routes.{IsRoute, release_offset, route_at, shared};
+ghost use Rattle.rail_base.specs.Routes.{IsRoute, own_shared, release_offset, route_at};
 ghost use Rattle.rail_base.specs.Stations.{IsTrain};
 ghost use Rattle.rail_spec.specs.Plans.{has_node};
 ghost use Rattle.bound_spec.specs.Certificates.{first_in, nodes_of_visit, target, visit_offset, visit_place};
@@ -24,7 +24,7 @@ pub struct Visit {
 }
 
 /// Where the head of a train is on a walk, in mm from the walk's start, when the last route has released all that it
-/// shares with another. It is 0 on a walk without routes.
+/// goes over and another has too. It is 0 on a walk without routes.
 pub fn release_place(
     interlocking: &Interlocking,
     train: TrainNo,
@@ -88,9 +88,9 @@ pub fn visit_place(interlocking: &Interlocking, visit: Visit, walk: &[RouteNo]) 
     }
 }
 
-/// The greatest release offset of the sections of a route that another has too.
+/// The greatest release offset of the sections that a route goes over and another has too.
 fn greatest_release(route: &Route, next: &Route) -> u64
-    ensures { result ≡ greatest_of (release_offset route.now) (shared route.now next.now) }
+    ensures { result ≡ greatest_of (release_offset route.now) (own_shared route.now next.now) }
 {
     let mut greatest = 0;
     for part in route.sections.as_slice() {

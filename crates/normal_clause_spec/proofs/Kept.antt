@@ -8,7 +8,7 @@ use Rattle.rail_base.specs.declared.route.RouteNo.{RouteNo}
 use Rattle.rail_base.specs.declared.plan.Command.{Command}
 use Rattle.rail_base.specs.Numbering.{entry}
 use Rattle.rail_base.specs.Stations.{train_length}
-use Rattle.rail_spec.specs.Plans.{route_at, commands, step_of, has_command, is_train, share, shared, release_offset, length_mm, exits, goes_on, contend, precedes, can_clear, route_numbers, all_commands}
+use Rattle.rail_spec.specs.Plans.{route_at, commands, step_of, has_command, is_train, share, own_shared, release_offset, length_mm, exits, goes_on, contend, precedes, can_clear, route_numbers, all_commands}
 use Rattle.rail_plan.specs.Normal.{given_before, excludes, can_clear_by, is_in_the_way, is_held, IsNormal}
 use Rattle.rail_base.proofs.Members.{In, and_left, and_right, and_both, below_or_not, either, in_filter, is_false, list_any_from, list_any_gives, same_bool}
 use Rattle.rail_base.proofs.Lists.{in_append_left, in_append_right, in_map}
@@ -103,7 +103,7 @@ module _ (d : Station) (routes : List Route) (n : ℕ) (plan : List (List Comman
     kept_by_way e m h = turn (in_turn d routes n plan fit e c con m here)
       where
         first : precedes routes plan e c ≡ true
-        first = and_left (precedes routes plan e c) (not (list_all (can_clear_by d routes plan (step_of plan c - 1) e) (shared (route_at routes e.route) (route_at routes c.route)))) h
+        first = and_left (precedes routes plan e c) (not (list_all (can_clear_by d routes plan (step_of plan c - 1) e) (own_shared (route_at routes e.route) (route_at routes c.route)))) h
 
         con : contend routes e c ≡ true
         con = and_left (contend routes e c) (nat_lt (step_of plan e) (step_of plan c)) first
@@ -111,8 +111,8 @@ module _ (d : Station) (routes : List Route) (n : ℕ) (plan : List (List Comman
         earlier : step_of plan e < step_of plan c
         earlier = leb-true _ _ (and_right (contend routes e c) (nat_lt (step_of plan e) (step_of plan c)) first)
 
-        uncleared : list_all (can_clear_by d routes plan (step_of plan c - 1) e) (shared (route_at routes e.route) (route_at routes c.route)) ≡ false
-        uncleared = is_false (list_all (can_clear_by d routes plan (step_of plan c - 1) e) (shared (route_at routes e.route) (route_at routes c.route))) (and_right (precedes routes plan e c) (not (list_all (can_clear_by d routes plan (step_of plan c - 1) e) (shared (route_at routes e.route) (route_at routes c.route)))) h)
+        uncleared : list_all (can_clear_by d routes plan (step_of plan c - 1) e) (own_shared (route_at routes e.route) (route_at routes c.route)) ≡ false
+        uncleared = is_false (list_all (can_clear_by d routes plan (step_of plan c - 1) e) (own_shared (route_at routes e.route) (route_at routes c.route))) (and_right (precedes routes plan e c) (not (list_all (can_clear_by d routes plan (step_of plan c - 1) e) (own_shared (route_at routes e.route) (route_at routes c.route)))) h)
 
         found : (g : Command) → In g (commands plan) → stands_last e g ≡ true → Keeper
         found g k t =
@@ -145,10 +145,10 @@ module _ (d : Station) (routes : List Route) (n : ℕ) (plan : List (List Comman
                 less t = at (and_left (comes_from e g) (nat_lt (step_of plan g) (step_of plan c)) t) (leb-true (suc (step_of plan g)) (step_of plan c) (and_right (comes_from e g) (nat_lt (step_of plan g) (step_of plan c)) t)) (below_or_not (step_of plan g) (step_of plan c - 1))
 
         clears_alike : given_before plan e (step_of plan c - 1) ≡ given_before plan e (step_of plan c)
-            → list_all (can_clear_by d routes plan (step_of plan c - 1) e) (shared (route_at routes e.route) (route_at routes c.route)) ≡ list_all (can_clear d routes plan e c) (shared (route_at routes e.route) (route_at routes c.route))
-        clears_alike same = ap (λ (given : List Command). list_all (λ z. nat_le (release_offset (route_at routes e.route) z + train_length d e.train) (sum_by length_mm (map (λ (g : Command). route_at routes g.route) given)) || list_any exits (map (λ (g : Command). route_at routes g.route) given)) (shared (route_at routes e.route) (route_at routes c.route))) same
+            → list_all (can_clear_by d routes plan (step_of plan c - 1) e) (own_shared (route_at routes e.route) (route_at routes c.route)) ≡ list_all (can_clear d routes plan e c) (own_shared (route_at routes e.route) (route_at routes c.route))
+        clears_alike same = ap (λ (given : List Command). list_all (λ z. nat_le (release_offset (route_at routes e.route) z + train_length d e.train) (sum_by length_mm (map (λ (g : Command). route_at routes g.route) given)) || list_any exits (map (λ (g : Command). route_at routes g.route) given)) (own_shared (route_at routes e.route) (route_at routes c.route))) same
 
-        turn : (step_of plan c < step_of plan e) ⊎ ((step_of plan e < step_of plan c) × (list_all (can_clear d routes plan e c) (shared (route_at routes e.route) (route_at routes c.route)) ≡ true)) → Keeper
+        turn : (step_of plan c < step_of plan e) ⊎ ((step_of plan e < step_of plan c) × (list_all (can_clear d routes plan e c) (own_shared (route_at routes e.route) (route_at routes c.route)) ≡ true)) → Keeper
         turn (inl l) = let f = earlier in absurd (omega arith)
         turn (inr l) = which (list_any (stands_last e) (commands plan)) refl
           where

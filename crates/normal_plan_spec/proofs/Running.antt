@@ -1,5 +1,5 @@
 -- A run depends on a plan by its paths, and by which commands precede which.
-use Rattle.std.proofs.Common.{◌≡◌, ℕ, zero, suc, ◌+◌, ◌*◌, Bool, true, ◌&&◌, if◌then◌else◌, nat_le, nat_lt, List, Option, None, Some, map, filter, length, slice_get, refl, sym, ap, subst, ◌∙◌}
+use Rattle.std.proofs.Common.{◌≡◌, ℕ, zero, suc, ◌+◌, ◌*◌, Bool, true, ◌&&◌, if◌then◌else◌, nat_le, nat_lt, List, Option, None, Some, ◌∷◌, map, filter, length, slice_get, refl, sym, ap, subst, ◌∙◌}
 use Rattle.std.specs.Prelude.{is_some, option_and_then}
 use Rattle.std.specs.List.{list_all}
 use Rattle.rail_base.specs.declared.station.Station.{Station}
@@ -18,7 +18,7 @@ use Rattle.rail_base.specs.Stations.{trains, train_of, horizon}
 use Rattle.rail_spec.specs.Track.{routes_of}
 use Rattle.rail_spec.specs.Plans.{commands, is_train, path, preceding, precedes, route_at}
 use Rattle.rail_spec.specs.Places.{path_nodes, visits_on}
-use Rattle.rail_spec.specs.Dispatches.{Dispatch, granted_after, granted_with, has_cleared, is_ready, moved, of_plan, state_at, state_of, tick}
+use Rattle.rail_spec.specs.Dispatches.{Dispatch, granted_after, granted_with, has_cleared, is_ready, moved, now, of_plan, past_of, pasts_at, state_at, state_of, tick}
 use Rattle.rail_spec.specs.Requirements.{both, meets, visit_numbers}
 use Rattle.rail_spec.specs.Feasible.{IsFeasible}
 use Rattle.rail_plan.specs.Earlier.{IsAsGood}
@@ -73,28 +73,28 @@ module _ (d : Station) (routes : List Route) (p : TrainNo → List RouteNo) (one
   abbrev with_other : Dispatch
   with_other = record { path = p; before = other; concerns = λ k t. true }
 
-  same_ready : (s : List TrainState) (c : Command) → is_ready d routes with_one s c ≡ is_ready d routes with_other s c
-  same_ready s c = same c (has_cleared d routes with_one s c)
+  same_ready : (ps : List (List TrainState)) (c : Command) → is_ready d routes with_one ps c ≡ is_ready d routes with_other ps c
+  same_ready ps c = same c (has_cleared d routes with_one ps c)
 
-  same_granted : (s : List TrainState) (t : TrainNo) (r : Option RouteNo) → granted_with d routes with_one s t r ≡ granted_with d routes with_other s t r
-  same_granted s t None = refl
-  same_granted s t (Some r) = ap (λ b. if b then (state_of s t).granted + 1 else (state_of s t).granted) (same_ready s (record { train = t; route = r }))
+  same_granted : (ps : List (List TrainState)) (t : TrainNo) (r : Option RouteNo) → granted_with d routes with_one ps t r ≡ granted_with d routes with_other ps t r
+  same_granted ps t None = refl
+  same_granted ps t (Some r) = ap (λ b. if b then (state_of (now ps) t).granted + 1 else (state_of (now ps) t).granted) (same_ready ps (record { train = t; route = r }))
 
   same_moved : (t : TrainNo) (s : TrainState) (n : ℕ) → moved d routes with_one t s n ≡ moved d routes with_other t s n
   same_moved t s zero = refl
   same_moved t s (suc n) = refl
 
-  same_train_after : (s : List TrainState) (t : TrainNo) → moved d routes with_one t (state_of s t) (granted_after d routes with_one s t) ≡ moved d routes with_other t (state_of s t) (granted_after d routes with_other s t)
-  same_train_after s t =
-      same_moved t (state_of s t) (granted_after d routes with_one s t)
-      ∙ ap (moved d routes with_other t (state_of s t)) (same_granted s t (slice_get (p t) (state_of s t).granted))
+  same_train_after : (ps : List (List TrainState)) (t : TrainNo) → moved d routes with_one t (state_of (now ps) t) (granted_after d routes with_one ps t) ≡ moved d routes with_other t (state_of (now ps) t) (granted_after d routes with_other ps t)
+  same_train_after ps t =
+      same_moved t (state_of (now ps) t) (granted_after d routes with_one ps t)
+      ∙ ap (moved d routes with_other t (state_of (now ps) t)) (same_granted ps t (slice_get (p t) (state_of (now ps) t).granted))
 
-  same_tick : (k : ℕ) (s : List TrainState) → tick d routes with_one k s ≡ tick d routes with_other k s
-  same_tick k s = λ i. map (λ t. same_train_after s t i) (trains d)
+  same_tick : (k : ℕ) (ps : List (List TrainState)) → tick d routes with_one k ps ≡ tick d routes with_other k ps
+  same_tick k ps = λ i. map (λ t. same_train_after ps t i ∷ past_of ps t) (trains d)
 
-  same_state : (k : ℕ) → state_at d routes with_one k ≡ state_at d routes with_other k
-  same_state zero = refl
-  same_state (suc k) = same_tick (suc k) (state_at d routes with_one k) ∙ ap (tick d routes with_other (suc k)) (same_state k)
+  same_pasts : (k : ℕ) → pasts_at d routes with_one k ≡ pasts_at d routes with_other k
+  same_pasts zero = refl
+  same_pasts (suc k) = same_tick (suc k) (pasts_at d routes with_one k) ∙ ap (tick d routes with_other (suc k)) (same_pasts k)
 
 -- ---- plans
 
@@ -108,7 +108,7 @@ module _ (d : Station) (routes : List Route) (plan other : List (List Command)) 
   pub run_alike : RunsAs d routes plan other
   run_alike k =
       (λ i. state_at d routes (record { path = same_paths i; before = preceding routes other; concerns = λ k t. true }) k)
-      ∙ same_state d routes (path plan) (preceding routes other) (preceding routes plan) (same_tests routes plan other same) k
+      ∙ ap now (same_pasts d routes (path plan) (preceding routes other) (preceding routes plan) (same_tests routes plan other same) k)
 
   -- whether a run with these paths and states meets the design
   abbrev meets_in : (TrainNo → List RouteNo) → (ℕ → List TrainState) → Bool

@@ -4,12 +4,11 @@ use Rattle.std.specs.List.{list_any, list_all}
 use Rattle.std.proofs.lemmas.List.{append_assoc}
 use Rattle.rail_base.specs.declared.station.Station.{Station}
 use Rattle.rail_base.specs.declared.station.SectionNo.{SectionNo}
-use Rattle.rail_base.specs.declared.station.TrainNo.{TrainNo}
 use Rattle.rail_base.specs.declared.route.Route.{Route}
 use Rattle.rail_base.specs.declared.plan.Command.{Command}
 use Rattle.rail_base.specs.Admitted.{IsAdmitted}
 use Rattle.rail_base.specs.Members.{In}
-use Rattle.rail_base.specs.Stations.{train_of, train_length, trains, IsTrain}
+use Rattle.rail_base.specs.Stations.{train_of, trains}
 use Rattle.rail_spec.specs.Track.{routes_of}
 use Rattle.rail_spec.specs.Plans.{commands, is_path, is_train, path_routes, route_at, sections, step_of}
 use Rattle.rail_spec.specs.Feasible.{names_only, IsFeasible, IsRunnable}
@@ -51,7 +50,7 @@ neither : (a b : Bool) → (a || b) ≡ false → (a ≡ false) × (b ≡ false)
 neither true b h = absurd (true≢false h)
 neither false b h = (refl, h)
 
-module _ (d : Station) (routes : List Route) (long : (t : TrainNo) → IsTrain d t → 1 ≤ train_length d t) (n : ℕ) where
+module _ (d : Station) (routes : List Route) (n : ℕ) where
   -- ---- one command
 
   abbrev HasSooner : List (List Command) → Type 0
@@ -69,7 +68,7 @@ module _ (d : Station) (routes : List Route) (long : (t : TrainNo) → IsTrain d
     moves before last xs ys after split m = (
       before ++ (last ++ c ∷ []) ∷ (xs ++ ys) ∷ after,
       subst (λ p. IsAsGood d routes p (before ++ (last ++ c ∷ []) ∷ (xs ++ ys) ∷ after)) (sym split)
-          (moved_is_as_good before last xs ys c after d routes long n (subst (IsRunnable d routes n) split runs) own clear),
+          (moved_is_as_good before last xs ys c after d routes n (subst (IsRunnable d routes n) split runs) own clear),
       let one = moved_delay before last xs ys c after in let same = ap delay split in omega arith,
     )
       where
@@ -141,11 +140,8 @@ module _ (d : Station) (routes : List Route) (long : (t : TrainNo) → IsTrain d
 
 -- ---- feasible plans
 
-trains_are_long : (d : Station) → IsAdmitted d → (t : TrainNo) → IsTrain d t → 1 ≤ train_length d t
-trains_are_long d h t k = (h.vehicle (train_of d t).vehicle (h.train t k).vehicle).length_mm.0
-
 pub has_normal_plan : (d : Station) → IsAdmitted d → (n : ℕ) (plan : List (List Command)) → IsFeasible d n plan → HasNormalPlan d n plan
-has_normal_plan d h n plan f = told (has_normal d (routes_of d) (trains_are_long d h) n plan f.runnable)
+has_normal_plan d h n plan f = told (has_normal d (routes_of d) n plan f.runnable)
   where
     told : (other : List (List Command)) × IsAsGood d (routes_of d) plan other × IsNormal d (routes_of d) other → HasNormalPlan d n plan
     told (other, good, normal) = record {

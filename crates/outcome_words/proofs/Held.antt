@@ -14,7 +14,7 @@ use Rattle.rail_base.specs.Routes.{route_at, shared}
 use Rattle.rail_base.specs.Stations.{IsTrain}
 use Rattle.rail_base.proofs.Lists.{in_flat_map, in_map}
 use Rattle.rail_base.proofs.Members.{and_left}
-use Rattle.rail_spec.specs.Dispatches.{granted_after, granted_with, has_cleared, has_released, is_ready, of_plan, state_at, state_of}
+use Rattle.rail_spec.specs.Dispatches.{granted_after, granted_with, has_cleared, has_released, is_ready, of_plan, pasts_at, state_at, state_of}
 use Rattle.rail_spec.specs.Histories.{grant_tick}
 use Rattle.rail_spec.specs.Histories as histories
 use Rattle.rail_spec.specs.Plans.{preceding}
@@ -33,6 +33,9 @@ use Rattle.outcome_words.specs.Waits.{last_waiting, releases_by, releases_for}
 module _ (d : Station) (routes : List Route) (plan : List (List Command)) (last : ℕ) (t : TrainNo) where
   abbrev run_at : ℕ → List TrainState
   run_at k = state_at d routes (of_plan routes plan) k
+
+  abbrev pasts : ℕ → List (List TrainState)
+  pasts k = pasts_at d routes (of_plan routes plan) k
 
   abbrev many : ℕ → ℕ
   many k = (state_of (run_at k) t).granted
@@ -73,34 +76,34 @@ module _ (d : Station) (routes : List Route) (plan : List (List Command)) (last 
       at false h = leb-false j (many until) h
 
   -- so it was not ready the tick before
-  pub not_ready : IsTrain d t → (k i : ℕ) (r : RouteNo) → slice_get (path plan t) i ≡ Some r → i ≤ many k → many (suc k) ≤ i → is_ready d routes (of_plan routes plan) (run_at k) (record { train = t; route = r }) ≡ false
-  not_ready is k i r there low high = at (is_ready d routes (of_plan routes plan) (run_at k) (record { train = t; route = r })) refl
+  pub not_ready : IsTrain d t → (k i : ℕ) (r : RouteNo) → slice_get (path plan t) i ≡ Some r → i ≤ many k → many (suc k) ≤ i → is_ready d routes (of_plan routes plan) (pasts k) (record { train = t; route = r }) ≡ false
+  not_ready is k i r there low high = at (is_ready d routes (of_plan routes plan) (pasts k) (record { train = t; route = r })) refl
     where
       later : many k ≤ many (suc k)
       later = (run_up_to d routes (of_plan routes plan) k (suc k) t (omega arith)).granted
 
-      at : (b : Bool) → is_ready d routes (of_plan routes plan) (run_at k) (record { train = t; route = r }) ≡ b → is_ready d routes (of_plan routes plan) (run_at k) (record { train = t; route = r }) ≡ false
+      at : (b : Bool) → is_ready d routes (of_plan routes plan) (pasts k) (record { train = t; route = r }) ≡ b → is_ready d routes (of_plan routes plan) (pasts k) (record { train = t; route = r }) ≡ false
       at false h = h
       at true h =
           let up = later in
           let place : many k ≡ i = omega arith in
-          let next : granted_after d routes (of_plan routes plan) (run_at k) t ≡ many k + 1 =
-          ap (granted_with d routes (of_plan routes plan) (run_at k) t) (ap (slice_get (path plan t)) place ∙ there)
+          let next : granted_after d routes (of_plan routes plan) (pasts k) t ≡ many k + 1 =
+          ap (granted_with d routes (of_plan routes plan) (pasts k) t) (ap (slice_get (path plan t)) place ∙ there)
           ∙ ap (λ b. if b then many k + 1 else many k) h in
           let least = granted_at_least d routes (of_plan routes plan) k t is.0 is.1 refl in
           absurd (omega arith)
 
 -- and some release had not come
 module _ (d : Station) (routes : List Route) (plan : List (List Command)) (last k : ℕ) (c : Command) where
-  abbrev now : List TrainState
-  now = state_at d routes (of_plan routes plan) k
+  abbrev now : List (List TrainState)
+  now = pasts_at d routes (of_plan routes plan) k
 
   -- a release that has not come by a tick does not come before the next
   late_at : (e : Command) (z : SectionNo) → has_released d routes (of_plan routes plan) now e z ≡ false → is_before (suc k) (histories.release_tick d routes plan last e z) ≡ false
   late_at e z h = go (histories.release_tick d routes plan last e z) refl
     where
       test : ℕ → Bool
-      test i = has_released d routes (of_plan routes plan) (state_at d routes (of_plan routes plan) i) e z
+      test i = has_released d routes (of_plan routes plan) (pasts_at d routes (of_plan routes plan) i) e z
 
       go : (o : Option ℕ) → histories.release_tick d routes plan last e z ≡ o → is_before (suc k) o ≡ false
       go None f = refl

@@ -1,5 +1,5 @@
 -- What the lines say of waits is so.
-use Rattle.std.proofs.Common.{◌≡◌, ℕ, zero, suc, ◌+◌, ◌-◌, ◌≤◌, ◌<◌, inl, inr, ◌==◌, Bool, true, false, not, ◌&&◌, nat_le, nat_lt, if◌then◌else◌, List, [], ◌∷◌, find, get_or, length, map, slice_get, sum_by, take, Option, None, Some, is_some, option_and_then, refl, sym, ap, subst, ◌∙◌, arith, leb-true, leb-false, eqb-true, eq-eqb}
+use Rattle.std.proofs.Common.{◌≡◌, ℕ, zero, suc, ◌+◌, ◌-◌, ◌≤◌, ◌<◌, inl, inr, ◌==◌, Bool, true, false, not, ◌&&◌, nat_le, nat_lt, if◌then◌else◌, List, [], ◌∷◌, ◌++◌, find, get_or, length, map, slice_get, sum_by, take, Option, None, Some, is_some, option_and_then, refl, sym, ap, subst, ◌∙◌, arith, leb-true, leb-false, eqb-true, eq-eqb}
 use Rattle.std.specs.List.{enumerate_from}
 use Rattle.std.proofs.lemmas.List.Sums.{sum_by-append}
 use Rattle.rail_base.specs.declared.station.Station.{Station}
@@ -15,13 +15,13 @@ use Rattle.rail_base.specs.declared.state.TrainState.{TrainState}
 use Rattle.rail_base.specs.Admitted.{IsAdmitted}
 use Rattle.rail_base.specs.Members.{In}
 use Rattle.rail_base.specs.Numbering.{entry, least}
-use Rattle.rail_base.specs.Routes.{has_section, no_route, route_at, sections, shared}
+use Rattle.rail_base.specs.Routes.{has_section, held_sections, no_route, own_sections, route_at, sections, shared}
 use Rattle.rail_base.specs.Stations.{IsTrain}
-use Rattle.rail_base.proofs.Lists.{in_entry, in_filter_back, in_flat_map_back, in_map_back, length-map}
+use Rattle.rail_base.proofs.Lists.{in_append, in_append_left, in_append_right, in_entry, in_filter_back, in_flat_map_back, in_map_back, length-map}
 use Rattle.rail_base.proofs.Members.{and_left, and_right, in_filter, list_all_at}
-use Rattle.rail_spec.specs.Dispatches.{granted_after, granted_with, has_released, is_ready, of_plan, state_at, state_of}
+use Rattle.rail_spec.specs.Dispatches.{granted_after, granted_with, has_released, is_ready, of_plan, pasts_at, state_at, state_of}
 use Rattle.rail_spec.specs.Feasible.{is_of, names_only}
-use Rattle.rail_spec.specs.Histories.{granted, history_at, train_history}
+use Rattle.rail_spec.specs.Histories.{granted, held_on, history_at, released, train_history}
 use Rattle.rail_spec.specs.Histories as histories
 use Rattle.rail_spec.specs.Plans.{commands, path, precedes, preceding}
 use Rattle.rail_spec.specs.Requirements.{granted_by}
@@ -37,7 +37,7 @@ use Rattle.rail_require.proofs.Telling.{train_told}
 use Rattle.slice_spec.proofs.Holders.{least_found}
 use Rattle.slice_spec.proofs.Raising.{least_below}
 use Rattle.timing_refuter.specs.Clearings.{is_entry}
-use Rattle.timing_refuter.proofs.Releasing.{part_is_in, release_found}
+use Rattle.timing_refuter.proofs.Releasing.{entry_tells, entry_there, tick_found}
 use Rattle.outcome_words.specs.declared.waits.Wait.{Wait}
 use Rattle.outcome_words.specs.Laws.{WaitsAreSo, edges_before, no_path_node, nodes_of}
 use Rattle.outcome_words.specs.Waits.{arrival, comes_late, edges_given, last_waiting, release_tick, releases_by, releases_for, wait_after, wait_from}
@@ -152,9 +152,18 @@ module _ (d : Station) (routes : List Route) (plan : List (List Command)) (last 
   release_told : names_only d routes plan ≡ true → (c e : Command) (z : SectionNo) → IsRelease routes plan c e z → release_tick (history_at d routes plan last) e z ≡ histories.release_tick d routes plan last e z
   release_told named c e z r =
       let is = train_of_command named e r.given in
-      let own = in_filter_back (has_section (route_at routes c.route)) (sections (route_at routes e.route)) z r.shared_by in
-      ap (λ (h : TrainHistory). option_and_then (λ p. p.2) (find (is_entry e.route z) h.releases)) (train_told d routes plan last e.train is)
-      ∙ release_found d routes plan last e z (command_in_path plan e r.given) (part_is_in (route_at routes e.route) z own.0)
+      let on_path = command_in_path plan e r.given in
+      let one = in_filter_back (has_section (route_at routes c.route)) (sections (route_at routes e.route)) z r.shared_by in
+      ap (λ (h : TrainHistory). option_and_then (λ p. p.2) (find (is_entry e.route z) (h.releases ++ h.holds))) (train_told d routes plan last e.train is)
+      ∙ tick_found e.route z (histories.release_tick d routes plan last e z) (released d routes plan last e.train ++ held_on d routes plan last e.train)
+      (elim (in_append z (own_sections (route_at routes e.route)) (held_sections (route_at routes e.route)) one.0) [
+        | inl own ↦ in_append_left _ (released d routes plan last e.train) (held_on d routes plan last e.train) (entry_there d routes plan last own_sections e z on_path own)
+        | inr held ↦ in_append_right _ (released d routes plan last e.train) (held_on d routes plan last e.train) (entry_there d routes plan last held_sections e z on_path held)
+      ])
+      (λ p m er ez. elim (in_append p (released d routes plan last e.train) (held_on d routes plan last e.train) m) [
+        | inl i ↦ entry_tells d routes plan last own_sections e z p i er ez
+        | inr i ↦ entry_tells d routes plan last held_sections e z p i er ez
+      ])
 
   -- ---- grants
 
@@ -162,30 +171,33 @@ module _ (d : Station) (routes : List Route) (plan : List (List Command)) (last 
     abbrev run_at : ℕ → List TrainState
     run_at k = state_at d routes (of_plan routes plan) k
 
+    abbrev pasts : ℕ → List (List TrainState)
+    pasts k = pasts_at d routes (of_plan routes plan) k
+
     abbrev many : ℕ → ℕ
     many k = (state_of (run_at k) t).granted
 
     -- the command that a tick grants was ready
-    ready_before : (k i : ℕ) (r : RouteNo) → slice_get (path plan t) i ≡ Some r → many k ≤ i → suc i ≤ many (suc k) → is_ready d routes (of_plan routes plan) (run_at k) (record { train = t; route = r }) ≡ true
+    ready_before : (k i : ℕ) (r : RouteNo) → slice_get (path plan t) i ≡ Some r → many k ≤ i → suc i ≤ many (suc k) → is_ready d routes (of_plan routes plan) (pasts k) (record { train = t; route = r }) ≡ true
     ready_before k i r there low high = go (slice_get (path plan t) (many k)) refl (granted_at_most d routes (of_plan routes plan) k t)
       where
-        go : (o : Option RouteNo) → slice_get (path plan t) (many k) ≡ o → many (suc k) ≤ granted_after d routes (of_plan routes plan) (run_at k) t → is_ready d routes (of_plan routes plan) (run_at k) (record { train = t; route = r }) ≡ true
-        go None e most = let same : granted_after d routes (of_plan routes plan) (run_at k) t ≡ many k = ap (granted_with d routes (of_plan routes plan) (run_at k) t) e in absurd (omega arith)
-        go (Some q) e most = at (is_ready d routes (of_plan routes plan) (run_at k) (record { train = t; route = q })) refl
+        go : (o : Option RouteNo) → slice_get (path plan t) (many k) ≡ o → many (suc k) ≤ granted_after d routes (of_plan routes plan) (pasts k) t → is_ready d routes (of_plan routes plan) (pasts k) (record { train = t; route = r }) ≡ true
+        go None e most = let same : granted_after d routes (of_plan routes plan) (pasts k) t ≡ many k = ap (granted_with d routes (of_plan routes plan) (pasts k) t) e in absurd (omega arith)
+        go (Some q) e most = at (is_ready d routes (of_plan routes plan) (pasts k) (record { train = t; route = q })) refl
           where
-            same : granted_after d routes (of_plan routes plan) (run_at k) t ≡ (if is_ready d routes (of_plan routes plan) (run_at k) (record { train = t; route = q }) then many k + 1 else many k)
-            same = ap (granted_with d routes (of_plan routes plan) (run_at k) t) e
+            same : granted_after d routes (of_plan routes plan) (pasts k) t ≡ (if is_ready d routes (of_plan routes plan) (pasts k) (record { train = t; route = q }) then many k + 1 else many k)
+            same = ap (granted_with d routes (of_plan routes plan) (pasts k) t) e
 
-            at : (b : Bool) → is_ready d routes (of_plan routes plan) (run_at k) (record { train = t; route = q }) ≡ b → is_ready d routes (of_plan routes plan) (run_at k) (record { train = t; route = r }) ≡ true
-            at false f = let none : granted_after d routes (of_plan routes plan) (run_at k) t ≡ many k = same ∙ ap (λ b. if b then many k + 1 else many k) f in absurd (omega arith)
+            at : (b : Bool) → is_ready d routes (of_plan routes plan) (pasts k) (record { train = t; route = q }) ≡ b → is_ready d routes (of_plan routes plan) (pasts k) (record { train = t; route = r }) ≡ true
+            at false f = let none : granted_after d routes (of_plan routes plan) (pasts k) t ≡ many k = same ∙ ap (λ b. if b then many k + 1 else many k) f in absurd (omega arith)
             at true f =
-                let one : granted_after d routes (of_plan routes plan) (run_at k) t ≡ many k + 1 = same ∙ ap (λ b. if b then many k + 1 else many k) f in
+                let one : granted_after d routes (of_plan routes plan) (pasts k) t ≡ many k + 1 = same ∙ ap (λ b. if b then many k + 1 else many k) f in
                 let place : many k ≡ i = omega arith in
                 let is : q ≡ r = some_is q r (sym e ∙ ap (slice_get (path plan t)) place ∙ there) in
-                subst (λ q. is_ready d routes (of_plan routes plan) (run_at k) (record { train = t; route = q }) ≡ true) is f
+                subst (λ q. is_ready d routes (of_plan routes plan) (pasts k) (record { train = t; route = q }) ≡ true) is f
 
     -- so where a command is granted at a tick, what it waits for has been released by the tick before
-    ready_at : (g i : ℕ) (r : RouteNo) → slice_get (path plan t) i ≡ Some r → histories.grant_tick d routes plan last t (suc i) ≡ Some g → is_ready d routes (of_plan routes plan) (run_at (g - 1)) (record { train = t; route = r }) ≡ true
+    ready_at : (g i : ℕ) (r : RouteNo) → slice_get (path plan t) i ≡ Some r → histories.grant_tick d routes plan last t (suc i) ≡ Some g → is_ready d routes (of_plan routes plan) (pasts (g - 1)) (record { train = t; route = r }) ≡ true
     ready_at g i r there e = go g refl
       where
         l : IsLeast (λ k. granted_by d routes plan k t (suc i)) last g
@@ -199,20 +211,20 @@ module _ (d : Station) (routes : List Route) (plan : List (List Command)) (last 
             at true f = let m = least_below (λ k. granted_by d routes plan k t (suc i)) last g (suc k) e (omega arith) f in absurd (omega arith)
             at false f = let m = leb-false (suc i) (many (suc k)) f in omega arith
 
-        go : (n : ℕ) → n ≡ g → is_ready d routes (of_plan routes plan) (run_at (g - 1)) (record { train = t; route = r }) ≡ true
+        go : (n : ℕ) → n ≡ g → is_ready d routes (of_plan routes plan) (pasts (g - 1)) (record { train = t; route = r }) ≡ true
         go zero s = let first = l.first in absurd (omega arith)
         go (suc k) s =
             let passes : granted_by d routes plan (suc k) t (suc i) ≡ true = subst (λ n. granted_by d routes plan n t (suc i) ≡ true) (sym s) l.passes in
             let less : k ≡ g - 1 = omega arith in
-            subst (λ n. is_ready d routes (of_plan routes plan) (run_at n) (record { train = t; route = r }) ≡ true) less (ready_before k i r there (before k s) (leb-true (suc i) (many (suc k)) passes))
+            subst (λ n. is_ready d routes (of_plan routes plan) (pasts n) (record { train = t; route = r }) ≡ true) less (ready_before k i r there (before k s) (leb-true (suc i) (many (suc k)) passes))
 
   -- a release that has come by a tick, and not before it, comes in it
-  comes_in : (k : ℕ) (e : Command) (z : SectionNo) → 1 ≤ k → k ≤ last → has_released d routes (of_plan routes plan) (state_at d routes (of_plan routes plan) k) e z ≡ true
+  comes_in : (k : ℕ) (e : Command) (z : SectionNo) → 1 ≤ k → k ≤ last → has_released d routes (of_plan routes plan) (pasts_at d routes (of_plan routes plan) k) e z ≡ true
       → is_before k (histories.release_tick d routes plan last e z) ≡ false → histories.release_tick d routes plan last e z ≡ Some k
   comes_in k e z low high has late = go (least_found test last (omega arith) (released_up_to d routes (of_plan routes plan) k last e z high has))
     where
       test : ℕ → Bool
-      test i = has_released d routes (of_plan routes plan) (state_at d routes (of_plan routes plan) i) e z
+      test i = has_released d routes (of_plan routes plan) (pasts_at d routes (of_plan routes plan) i) e z
 
       go : (a : ℕ) × (least test last ≡ Some a) → least test last ≡ Some k
       go (a, f) =
@@ -324,7 +336,7 @@ waits_so d routes plan good named n history last s t is c m w waits =
         let ready = ready_at d routes plan last t granted (c.0 - 1) c.1.0 number.here (ap (histories.grant_tick d routes plan last t) (sym low) ∙ is_granted) in
         let cleared = ready_cleared d routes (of_plan routes plan) (granted - 1) command ready in
         let has = cleared.each e z (in_filter (λ e. precedes routes plan e command) (commands plan) e r.given r.earlier) r.shared_by in
-        comes_in d routes plan last w.until e z (omega arith) (omega arith) (subst (λ n. has_released d routes (of_plan routes plan) (state_at d routes (of_plan routes plan) n) e z ≡ true) (sym tick) has) (late e z h)
+        comes_in d routes plan last w.until e z (omega arith) (omega arith) (subst (λ n. has_released d routes (of_plan routes plan) (pasts_at d routes (of_plan routes plan) n) e z ≡ true) (sym tick) has) (late e z h)
 
     -- up to the last tick
     within : (o : Option ℕ) → histories.grant_tick d routes plan last t c.0 ≡ o → last_waiting last o ≤ last

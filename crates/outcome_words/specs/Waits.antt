@@ -13,10 +13,11 @@ use Rattle.rail_base.specs.declared.plan.Command.{Command}
 use Rattle.rail_base.specs.declared.history.TrainHistory.{TrainHistory}
 use Rattle.rail_base.specs.Names.{node_name, section_name, signal_name, train_name}
 use Rattle.rail_base.specs.Numbering.{entry}
-use Rattle.rail_base.specs.Routes.{route_at, shared}
+use Rattle.rail_base.specs.Routes.{overlaps, route_at, shared}
 use Rattle.rail_spec.specs.Plans.{precedes, preceding}
 use Rattle.rail_require.specs.Ticks.{history_of, is_before}
 use Rattle.timing_refuter.specs.Clearings.{is_entry}
+use Rattle.cone_words.specs.Routes.{finish_name}
 use Rattle.outcome_words.specs.declared.waits.Wait.{Wait}
 use Rattle.outcome_words.specs.Visits.{time_text}
 
@@ -35,9 +36,10 @@ arrival routes h j =
 
 -- ---- releases
 
--- the tick at which a command has released a section
+-- the tick at which a command has released a section, an own one or one of its overlap
 abbrev pub release_tick : List TrainHistory → Command → SectionNo → Option ℕ
-release_tick history e z = option_and_then (λ p. p.2) (find (is_entry e.route z) (history_of history e.train).releases)
+release_tick history e z = let h = history_of history e.train in
+    option_and_then (λ p. p.2) (find (is_entry e.route z) (h.releases ++ h.holds))
 
 -- that has not come before a tick
 abbrev pub comes_late : List TrainHistory → ℕ → Command × SectionNo → Bool
@@ -90,25 +92,31 @@ abbrev pub start_text : Station → Start → List ℕ
 start_text d (start.Boundary n) = codes "outside " ++ node_name d n
 start_text d (start.Signal s) = codes "at " ++ signal_name d s
 
--- `, for RB to release z4`
-abbrev pub release_text : Station → Option (Command × SectionNo) → List ℕ
-release_text d None = []
-release_text d (Some p) = codes ", for " ++ train_name d p.0.train ++ codes " to release " ++ section_name d p.1
+-- ` of its overlap at s7`, for a section of the overlap at the route's end
+abbrev pub overlap_text : Station → Route → SectionNo → List ℕ
+overlap_text d r z = if overlaps r z then codes " of its overlap at " ++ finish_name d r.finish else []
+
+-- `, for RB to release z4`, or `, for RB to release z4 of its overlap at s7`
+abbrev pub release_text : Station → List Route → Option (Command × SectionNo) → List ℕ
+release_text d routes None = []
+release_text d routes (Some p) =
+    codes ", for " ++ train_name d p.0.train ++ codes " to release " ++ section_name d p.1
+    ++ overlap_text d (route_at routes p.0.route) p.1
 
 -- `, to the end`
 abbrev pub end_text : Bool → List ℕ
 end_text granted = if granted then [] else codes ", to the end"
 
 -- `ICe waits at s4 from 3 min 20 s for 40 s, for RB to release z4`
-abbrev pub wait_text : Station → TrainNo → Wait → List ℕ
-wait_text d t w =
+abbrev pub wait_text : Station → List Route → TrainNo → Wait → List ℕ
+wait_text d routes t w =
     train_name d t ++ codes " waits " ++ start_text d w.start ++ codes " from " ++ time_text d w.from ++ codes " for "
-    ++ time_text d (w.until - w.from) ++ end_text w.granted ++ release_text d w.release ++ codes "\n"
+    ++ time_text d (w.until - w.from) ++ end_text w.granted ++ release_text d routes w.release ++ codes "\n"
 
 module _ (d : Station) (routes : List Route) (plan : List (List Command)) (history : List TrainHistory) (last : ℕ) where
   -- the line of a train's wait for a command, where it waits
   abbrev pub wait_line : TrainNo → TrainHistory → ℕ × (RouteNo × Option ℕ) → Option (List ℕ)
-  wait_line t h numbered = option_map (wait_text d t) (wait_of routes plan history last t h numbered)
+  wait_line t h numbered = option_map (wait_text d routes t) (wait_of routes plan history last t h numbered)
 
   -- those of all commands of its path, by what has happened to the train
   abbrev pub waits_in : TrainNo → TrainHistory → List (List ℕ)

@@ -3,9 +3,11 @@
 
 ghost use Rattle.std.specs.Prelude.{◌≡◌, IfOk, OnOk};
 ghost use Rattle.std.specs.List.{flat_map};
+ghost use Rattle.rail_base.specs.Routes.{route_at};
 ghost use Rattle.rail_base.specs.Stations.{trains};
 ghost use Rattle.rail_text.specs.Added.{AddsLines, AddsText};
-ghost use Rattle.outcome_words.specs.Waits.{end_text, release_text, start_text, wait_text};
+ghost use Rattle.interlocking.specs.Plans.{on};
+ghost use Rattle.outcome_words.specs.Waits.{end_text, overlap_text, release_text, start_text, wait_text};
 ghost use Rattle.outcome_words.specs.Waits.{waits_in};
 ghost use Rattle.outcome_words.specs.Stands.{lines_in, train_lines};
 ghost use Rattle.outcome_words.specs.Runs.{of_shown};
@@ -14,11 +16,13 @@ use crate::run::ShownRun;
 use crate::stands::push_stands;
 use crate::visits::put_time;
 use crate::waits::{Wait, wait_of};
+use cone_words::finish_name;
+use interlocking::Interlocking;
 use rail_base::design::Design;
 use rail_base::history::TrainHistory;
 use rail_base::names::{entry, node_name, section_name, signal_name, train_name};
 use rail_base::plan::Command;
-use rail_base::route::Start;
+use rail_base::route::{Route, RouteNo, Start};
 use rail_base::station::{SectionNo, TrainNo};
 use std::alloc::{AllocError, Global};
 
@@ -48,46 +52,82 @@ pub(crate) fn put_end(text: &mut Vec<u8>, is_done: bool) -> Result<(), AllocErro
     text.extend_from_slice(b", to the end")
 }
 
+/// Appends that a section is of the overlap at a route's end, and where that is; nothing of any other section.
+fn put_overlap(
+    text: &mut Vec<u8>,
+    design: &Design,
+    route: &Route,
+    section: SectionNo,
+) -> Result<(), AllocError>
+    ensures { OnOk result (AddsText text.old text.new (overlap_text design.now.station route.now section)) }
+{
+    if !route.overlaps(section) {
+        return Ok(());
+    }
+    text.extend_from_slice(b" of its overlap at ")?;
+    text.extend_from_slice(finish_name(design, route.finish))?;
+    Ok(())
+}
+
+/// The same of the route of a number.
+fn put_overlap_at(
+    text: &mut Vec<u8>,
+    interlocking: &Interlocking,
+    route: RouteNo,
+    section: SectionNo,
+) -> Result<(), AllocError>
+    ensures { let i = interlocking.now in OnOk result (AddsText text.old text.new
+        (overlap_text i.design.station (route_at i.routes route) section)) }
+{
+    match entry(interlocking.routes.as_slice(), route.0 as usize) {
+        Some(route) => put_overlap(text, &interlocking.design, route, section),
+        None => Ok(()),
+    }
+}
+
 /// Appends which command is to release which section.
 fn put_releasing(
     text: &mut Vec<u8>,
-    design: &Design,
+    interlocking: &Interlocking,
     command: Command,
     section: SectionNo,
 ) -> Result<(), AllocError>
     ensures { OnOk result (AddsText text.old text.new
-        (release_text design.now.station (Some (command, section)))) }
+        (on interlocking.now release_text (Some (command, section)))) }
 {
+    let design = &interlocking.design;
     text.extend_from_slice(b", for ")?;
     text.extend_from_slice(train_name(design, command.train))?;
     text.extend_from_slice(b" to release ")?;
     text.extend_from_slice(section_name(design, section))?;
+    put_overlap_at(text, interlocking, command.route, section)?;
     Ok(())
 }
 
 /// Appends what is waited for, if there is something.
 fn put_release(
     text: &mut Vec<u8>,
-    design: &Design,
+    interlocking: &Interlocking,
     release: Option<(Command, SectionNo)>,
 ) -> Result<(), AllocError>
-    ensures { OnOk result (AddsText text.old text.new (release_text design.now.station release)) }
+    ensures { OnOk result (AddsText text.old text.new (on interlocking.now release_text release)) }
 {
     match release {
         None => Ok(()),
-        Some((command, section)) => put_releasing(text, design, command, section),
+        Some((command, section)) => put_releasing(text, interlocking, command, section),
     }
 }
 
 /// That a train waits.
 fn wait_text(
     alloc: Global,
-    design: &Design,
+    interlocking: &Interlocking,
     train: TrainNo,
     wait: Wait,
 ) -> Result<Vec<u8>, AllocError>
-    ensures { IfOk result (λ line. line.items ≡ wait_text design.now.station train wait) }
+    ensures { IfOk result (λ line. line.items ≡ on interlocking.now wait_text train wait) }
 {
+    let design = &interlocking.design;
     let mut line = Vec::from_slice(alloc, train_name(design, train))?;
     line.extend_from_slice(b" waits ")?;
     put_start(&mut line, design, wait.start)?;
@@ -96,7 +136,7 @@ fn wait_text(
     line.extend_from_slice(b" for ")?;
     put_time(&mut line, design, wait.until.saturating_sub(wait.from))?;
     put_end(&mut line, wait.granted)?;
-    put_release(&mut line, design, wait.release)?;
+    put_release(&mut line, interlocking, wait.release)?;
     line.push(b'\n')?;
     Ok(line)
 }
@@ -111,10 +151,9 @@ fn push_waits(
 ) -> Result<(), AllocError>
     ensures { OnOk result (AddsLines lines.old lines.new (of_shown run.now waits_in train history.now)) }
 {
-    let design = &run.interlocking.design;
     for (index, grant) in history.grants.as_slice().iter().enumerate() {
         if let Some(wait) = wait_of(run, train, history, index, *grant) {
-            let line = wait_text(alloc, design, train, wait)?;
+            let line = wait_text(alloc, run.interlocking, train, wait)?;
             lines.push(line)?;
         }
     }

@@ -1,8 +1,9 @@
 //! Where trains wait in a run, and for what. Nothing here takes memory.
 
-ghost use Rattle.std.specs.Prelude.{◌≡◌, ◌+◌, ◌<◌, ◌-◌, drop, find, flat_map, length, option_and_then};
-ghost use Rattle.std.specs.Prelude.{if◌then◌else◌, None};
-ghost use Rattle.rail_base.specs.Routes.{has_section, route_at, share};
+ghost use Rattle.std.specs.Prelude.{◌≡◌, ◌+◌, ◌<◌, ◌-◌, ◌++◌, drop, filter, find, flat_map, length, map};
+ghost use Rattle.std.specs.Prelude.{option_and_then, if◌then◌else◌, None};
+ghost use Rattle.std.specs.List.{list_any};
+ghost use Rattle.rail_base.specs.Routes.{has_section, held_sections, own_shared, route_at, share};
 ghost use Rattle.rail_spec.specs.Plans.{precedes};
 ghost use Rattle.timing_refuter.specs.Clearings.{is_entry};
 ghost use Rattle.outcome_words.specs.Waits.{arrival, comes_late, edges_given, last_waiting, release_tick, releases_by};
@@ -13,7 +14,7 @@ use crate::run::ShownRun;
 use rail_base::history::TrainHistory;
 use rail_base::names::entry;
 use rail_base::plan::Command;
-use rail_base::route::{RouteNo, RouteTable, Start};
+use rail_base::route::{OverlapSection, RouteNo, RouteTable, Start};
 use rail_base::station::{NodeNo, SectionNo, TrainNo};
 use rail_plan::paths::step_of;
 
@@ -32,20 +33,29 @@ pub struct Wait {
     pub release: Option<(Command, SectionNo)>,
 }
 
-/// The tick of the first entry of a route and a section.
-fn released_at(
-    releases: &[(RouteNo, SectionNo, Option<u64>)],
+/// The first entry of a route and a section.
+fn entry_of(
+    entries: &[(RouteNo, SectionNo, Option<u64>)],
     route: RouteNo,
     section: SectionNo,
-) -> Option<u64>
-    ensures { result ≡ option_and_then (λ p. p.2) (find (is_entry route section) releases.now) }
+) -> Option<(RouteNo, SectionNo, Option<u64>)>
+    ensures { result ≡ find (is_entry route section) entries.now }
 {
-    for release in releases {
-        if release.0 == route && release.1 == section {
-            return release.2;
-        }
+    entries
+        .iter()
+        .copied()
+        .find(|entry| entry.0 == route && entry.1 == section)
+}
+
+/// The tick at which a train has released a section of one of its routes, an own one or one of its overlap.
+fn released_at(train: &TrainHistory, route: RouteNo, section: SectionNo) -> Option<u64>
+    ensures { result ≡ option_and_then (λ p. p.2)
+        (find (is_entry route section) (train.now.releases ++ train.now.holds)) }
+{
+    match entry_of(train.releases.as_slice(), route, section) {
+        Some(release) => release.2,
+        None => entry_of(train.holds.as_slice(), route, section)?.2,
     }
-    None
 }
 
 /// The tick at which a command has released a section. None where that has not come, or the history does not have it.
@@ -53,7 +63,7 @@ fn release_tick(history: &[TrainHistory], command: Command, section: SectionNo) 
     ensures { result ≡ release_tick history.now command section }
 {
     match entry(history, command.train.0 as usize) {
-        Some(train) => released_at(train.releases.as_slice(), command.route, section),
+        Some(train) => released_at(train, command.route, section),
         None => None,
     }
 }
@@ -68,7 +78,7 @@ fn comes_late(history: &[TrainHistory], tick: u64, command: Command, section: Se
     }
 }
 
-/// The sections of a route, with their release offsets.
+/// The sections that a route goes over, with their release offsets.
 fn sections_of(routes: &RouteTable, route: RouteNo) -> &[(SectionNo, i64)]
     ensures { result.now ≡ (route_at routes.now route).sections }
 {
@@ -78,22 +88,51 @@ fn sections_of(routes: &RouteTable, route: RouteNo) -> &[(SectionNo, i64)]
     }
 }
 
-/// Whether a route goes over a section.
+/// Those of the overlap at its end.
+fn overlaps_of(routes: &RouteTable, route: RouteNo) -> &[OverlapSection]
+    ensures { result.now ≡ (route_at routes.now route).overlaps }
+{
+    match entry(routes.as_slice(), route.0 as usize) {
+        Some(route) => route.overlaps.as_slice(),
+        None => &[],
+    }
+}
+
+/// Whether a route has a section.
 fn has_section(routes: &RouteTable, route: RouteNo, section: SectionNo) -> bool
     ensures { result ≡ has_section (route_at routes.now route) section }
 {
+    match entry(routes.as_slice(), route.0 as usize) {
+        Some(route) => route.has_section(section),
+        None => false,
+    }
+}
+
+/// Whether a route has one of the sections that another goes over.
+fn shares_own(routes: &RouteTable, route: RouteNo, other: RouteNo) -> bool
+    ensures { result ≡ list_any (λ p. has_section (route_at routes.now other) p.0)
+        (route_at routes.now route).sections }
+{
     sections_of(routes, route)
         .iter()
-        .any(|part| part.0.0 == section.0)
+        .any(|part| has_section(routes, other, part.0))
+}
+
+/// Whether it has one of those of the overlap at the other's end.
+fn shares_overlap(routes: &RouteTable, route: RouteNo, other: RouteNo) -> bool
+    ensures { result ≡ list_any (λ p. has_section (route_at routes.now other) p.section)
+        (route_at routes.now route).overlaps }
+{
+    overlaps_of(routes, route)
+        .iter()
+        .any(|part| has_section(routes, other, part.section))
 }
 
 /// Whether two routes have a section in common.
 fn share(routes: &RouteTable, route: RouteNo, other: RouteNo) -> bool
     ensures { result ≡ share (route_at routes.now route) (route_at routes.now other) }
 {
-    sections_of(routes, route)
-        .iter()
-        .any(|part| has_section(routes, other, part.0))
+    shares_own(routes, route, other) || shares_overlap(routes, route, other)
 }
 
 /// Where a route starts.
@@ -175,15 +214,15 @@ fn is_earlier(run: &ShownRun, first: Command, second: Command) -> bool
         && step_of(run.plan, first) < step_of(run.plan, second)
 }
 
-/// Of the sections that two commands share the first that the one has not released before a tick.
-fn late_release_by(
+/// Of the sections that a command goes over and another has the first that the one has not released before a tick.
+fn late_own_release(
     run: &ShownRun,
     tick: u64,
     first: Command,
     second: Command,
 ) -> Option<(Command, SectionNo)>
-    ensures { result ≡ find (comes_late run.now.history.now tick)
-        (releases_by run.now.interlocking.now.routes second first) }
+    ensures { let routes = run.now.interlocking.now.routes in result ≡ find (comes_late run.now.history.now tick)
+        (map (λ z. (first, z)) (own_shared (route_at routes first.route) (route_at routes second.route))) }
 {
     let routes = &run.interlocking.routes;
     for part in sections_of(routes, first.route) {
@@ -194,6 +233,44 @@ fn late_release_by(
         }
     }
     None
+}
+
+/// The same of those of its overlap.
+fn late_hold_release(
+    run: &ShownRun,
+    tick: u64,
+    first: Command,
+    second: Command,
+) -> Option<(Command, SectionNo)>
+    ensures { let routes = run.now.interlocking.now.routes in result ≡ find (comes_late run.now.history.now tick)
+        (map (λ z. (first, z)) (filter (has_section (route_at routes second.route))
+        (held_sections (route_at routes first.route)))) }
+{
+    let routes = &run.interlocking.routes;
+    for held in overlaps_of(routes, first.route) {
+        if has_section(routes, second.route, held.section)
+            && comes_late(run.history, tick, first, held.section)
+        {
+            return Some((first, held.section));
+        }
+    }
+    None
+}
+
+/// Of the sections that two commands share the first that the one has not released before a tick.
+fn late_release_by(
+    run: &ShownRun,
+    tick: u64,
+    first: Command,
+    second: Command,
+) -> Option<(Command, SectionNo)>
+    ensures { result ≡ find (comes_late run.now.history.now tick)
+        (releases_by run.now.interlocking.now.routes second first) }
+{
+    match late_own_release(run, tick, first, second) {
+        Some(release) => Some(release),
+        None => late_hold_release(run, tick, first, second),
+    }
 }
 
 /// The same, where the one command precedes the other.

@@ -1,5 +1,5 @@
 -- Where a route releases the last section that it shares with another.
-use Rattle.std.proofs.Common.{◌≡◌, ℕ, ℤ, suc, ◌≤◌, ◌⊎◌, inl, inr, Bool, true, false, cond, Option, Some, None, List, [], ◌∷◌, map, filter, fold, max, refl, sym, ap, subst, ◌∙◌, arith}
+use Rattle.std.proofs.Common.{◌≡◌, ℕ, ℤ, suc, ◌+◌, ◌≤◌, ◌⊎◌, inl, inr, Bool, true, false, cond, Option, Some, None, List, [], ◌∷◌, map, filter, fold, max, refl, sym, ap, subst, ◌∙◌, arith, true≢false}
 use Rattle.std.specs.Prelude.{All, find, nat_abs, reverse}
 use Rattle.std.specs.List.Sorted.{IsNonDecreasingBy, IsPermutation}
 use Rattle.std.specs.Option.{option_or}
@@ -12,7 +12,9 @@ use Rattle.rail_base.specs.Members.{In}
 use Rattle.rail_base.proofs.Lists.{in_map, in_map_back, in_filter_back}
 use Rattle.rail_base.proofs.Members.{in_filter}
 use Rattle.rail_laws.proofs.AsEdges.{fold_above, fold_reached}
-use Rattle.plan_encoding.specs.Releases.{offset_of, AreReleases}
+use Rattle.rail_base.specs.Routes.{has_section, own_sections, own_shared, release_offset}
+use Rattle.clause_spec.specs.Clauses.{left_by}
+use Rattle.plan_encoding.specs.Releases.{left_of, AreReleases}
 use Rattle.number_sets.specs.declared.set.NumberSet.{NumberSet}
 use Rattle.number_sets.specs.Sets.{contains}
 use Rattle.interlocking.specs.Sections.{IsSectionSet, last_release}
@@ -46,6 +48,11 @@ module _ {X : Type 0} (test : X → Bool) (n : X → ℕ) where
       go (Some p) b e k = (inr k.0, k.1, λ y m t. elim m [ inl f ↦ subst (λ z. n z ≤ n p) f (all_gives (λ y. n x ≤ n y) xs p below k.0) | inr i ↦ k.2 y i t ])
       go None true e k = (inl refl, e, λ y m t. elim m [ inl f ↦ subst (λ z. n z ≤ n x) f (omega arith) | inr i ↦ absurd (let u = sym t ∙ k y i in cc) ])
       go None false e k = λ y m. elim m [ inl f ↦ subst (λ z. test z ≡ false) f e | inr i ↦ k y i ]
+
+-- where a section is released, or 0 where there is none
+abbrev offset_of : Option (SectionNo × ℤ) → ℕ
+offset_of None = 0
+offset_of (Some p) = nat_abs p.1
 
 module _ (r q : Route) (parts : List (SectionNo × ℤ)) (set : NumberSet) (all : AreReleases parts r) where
   abbrev offset : SectionNo × ℤ → ℕ
@@ -91,5 +98,32 @@ module _ (r q : Route) (parts : List (SectionNo × ℤ)) (set : NumberSet) (all 
               let l = low in
               omega arith
 
-  pub last_tells : IsSectionSet set q → offset_of (find (λ p. contains set p.0.0) (reverse parts)) ≡ last_release r q
+  last_tells : IsSectionSet set q → offset_of (find kept (reverse parts)) ≡ last_release r q
   last_tells is = greatest_last ∙ last_release_is r q set is
+
+  -- so much takes a tail clear of all of them
+  pub last_clears : (l : ℕ) → IsSectionSet set q → left_of (find (λ p. contains set p.0.0) (reverse parts)) l ≡ left_by (map (release_offset r) (own_shared r q)) l
+  last_clears l is = go (find kept (reverse parts)) refl (last_is kept offset parts all.rising)
+    where
+      go : (found : Option (SectionNo × ℤ)) → find kept (reverse parts) ≡ found → IsLast kept offset parts found → left_of found l ≡ left_by (map (release_offset r) (own_shared r q)) l
+      go None e none = empty (own_shared r q) (λ z m. m)
+        where
+          empty : (zs : List SectionNo) → ((z : SectionNo) → In z zs → In z (own_shared r q)) → 0 ≡ left_by (map (release_offset r) zs) l
+          empty [] h = refl
+          empty (z ∷ zs) h =
+              let own = in_filter_back (has_section q) (own_sections r) z (h z (inl refl)) in
+              let part = in_map_back (λ (p : SectionNo × ℤ). p.0) r.sections z own.0 in
+              let there : has_section q part.0.0 ≡ true = ap (has_section q) part.2 ∙ own.1 in
+              let out = none part.0 (moved_in r.sections parts all.moved part.0 part.1) in
+              absurd (true≢false (sym there ∙ (sym (is part.0.0) ∙ out)))
+      go (Some p) e best = full (own_shared r q) (λ n. n) here
+        where
+          told : offset p ≡ last_release r q
+          told = sym (ap offset_of e) ∙ last_tells is
+
+          here : In p.0 (own_shared r q)
+          here = in_filter (has_section q) (own_sections r) p.0 (in_map (λ (x : SectionNo × ℤ). x.0) r.sections p (moved_in parts r.sections (IsPermutation-sym r.sections parts all.moved) p best.0)) (sym (is p.0) ∙ best.1)
+
+          full : (zs : List SectionNo) → (last_release r q ≡ fold max 0 (map (release_offset r) (own_shared r q)) → last_release r q ≡ fold max 0 (map (release_offset r) zs)) → In p.0 zs → offset p + l ≡ left_by (map (release_offset r) zs) l
+          full [] same m = absurd m
+          full (z ∷ zs) same m = ap (λ n. n + l) (told ∙ same refl)

@@ -1,8 +1,8 @@
-//! Where a route releases the sections that it shares with another.
+//! How much track clears the sections that a route shares with another.
 
-ghost use Rattle.std.specs.Prelude.{◌≡◌, IfOk, find, reverse};
+ghost use Rattle.std.specs.Prelude.{◌≡◌, ◌≤◌, ◌^◌, IfOk, find, reverse};
 ghost use Rattle.number_sets.specs.Sets.{contains};
-ghost use Rattle.plan_encoding.specs.Releases.{offset_of, AreReleases};
+ghost use Rattle.plan_encoding.specs.Releases.{left_of, AreReleases};
 
 use number_sets::NumberSet;
 use rail_base::route::Route;
@@ -18,12 +18,14 @@ pub fn releases(alloc: Global, route: &Route) -> Result<Vec<(SectionNo, i64)>, A
     Ok(parts)
 }
 
-/// Where the last of these sections that is in a set is released, in mm; 0 where none is.
-pub fn last_release(parts: &[(SectionNo, i64)], set: &NumberSet) -> u64
-    ensures { result ≡ offset_of (find (λ p. contains set.now p.0.0) (reverse parts.now)) }
+/// How much track takes a train of this length clear of those of these sections that are in a set, in mm; 0 where none
+/// is.
+pub fn clearing(parts: &[(SectionNo, i64)], set: &NumberSet, length: u32) -> u128
+    ensures value { result ≡ left_of (find (λ p. contains set.now p.0.0) (reverse parts.now)) length }
+    ensures bound { result ≤ 2 ^ 65 }
 {
     match last_in(parts, set) {
-        Some(part) => part.1.unsigned_abs(),
+        Some(part) => u128::from(part.1.unsigned_abs()) + u128::from(length),
         None => 0,
     }
 }

@@ -11,7 +11,7 @@ ghost use Rattle.plan_encoding.specs.Encoders.{IsCommand, Emits, Stops, station,
 ghost use Rattle.plan_encoding.specs.Waits.{frame_of, waits_at, waits_for_it, waits_in, waits_on};
 
 use crate::encoder::Encoder;
-use crate::releases::{last_release, releases};
+use crate::releases::{clearing, releases};
 use crate::sink::{BaseFault, ClauseSink};
 use crate::tables::Tables;
 use crate::wait::{Releasing, Wait};
@@ -261,13 +261,12 @@ impl Releasing<'_> {
     {
         let tables = self.tables;
         let interlocking = tables.encoder.interlocking;
-        let release = last_release(self.parts, interlocking.sections(second.route));
         let length = interlocking.design.vehicle_of(self.first.train).length_mm;
         let wait = Wait {
             tables,
             first: self.first,
             second,
-            bound: u128::from(release) + u128::from(length),
+            bound: clearing(self.parts, interlocking.sections(second.route), length),
         };
         let more = interlocking.routes.len() as u32;
         let mut chain = Vec::new(alloc);

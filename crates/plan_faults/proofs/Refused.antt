@@ -1,15 +1,14 @@
 -- Plans that are refused have reasons and keepers.
-use Rattle.std.proofs.Common.{◌≡◌, ℕ, suc, ◌+◌, ◌-◌, ◌<◌, ◌≤◌, inl, inr, ◌⊎◌, Bool, true, false, true≢false, not, cond, ◌&&◌, ◌||◌, ◌==◌, nat_le, nat_lt, List, [], ◌∷◌, ◌++◌, map, filter, flat_map, length, take, find, sum_by, Option, None, Some, Result, Ok, Err, refl, sym, ap, subst, arith, eqb-true, leb-true, leb-false, ◌∙◌}
-use Rattle.std.specs.List.{list_any, list_all}
+use Rattle.std.proofs.Common.{◌≡◌, ℕ, suc, ◌+◌, ◌-◌, ◌<◌, ◌≤◌, inl, inr, ◌⊎◌, Bool, true, false, true≢false, not, cond, ◌&&◌, ◌||◌, ◌==◌, nat_le, nat_lt, List, [], ◌∷◌, map, filter, flat_map, length, take, find, sum_by, Some, Result, Ok, Err, refl, sym, ap, subst, arith, eqb-true, leb-true, leb-false, ◌∙◌}
+use Rattle.std.specs.List.{list_any}
 use Rattle.rail_base.specs.declared.plan.Command.{Command}
 use Rattle.rail_base.specs.declared.route.Route.{Route}
-use Rattle.rail_base.specs.declared.route.RouteNo.{RouteNo}
 use Rattle.rail_base.specs.declared.station.SectionNo.{SectionNo}
 use Rattle.rail_base.specs.declared.station.Station.{Station}
 use Rattle.rail_base.specs.declared.station.TrainNo.{TrainNo}
 use Rattle.rail_base.specs.Members.{In}
 use Rattle.rail_base.specs.Numbering.{entry, first_of_list, one_to}
-use Rattle.rail_base.specs.Routes.{exits, has_section, length_mm, route_at, sections}
+use Rattle.rail_base.specs.Routes.{exits, goes_over, has_section, length_mm, route_at, sections}
 use Rattle.rail_base.specs.Stations.{train_of, trains}
 use Rattle.rail_spec.specs.Plans.{can_clear, commands, is_train, path_routes, routes_given, step_of}
 use Rattle.rail_plan.specs.declared.fault.PlanCode.{PlanCode}
@@ -18,12 +17,12 @@ use Rattle.rail_plan.specs.declared.place.PlanPlace.{PlanPlace}
 use Rattle.rail_plan.specs.declared.place.PlanPlace.TheVariants as place
 use Rattle.rail_plan.specs.Executable.{blocked, blocked_in, blocked_sections, keeps_from}
 use Rattle.rail_plan.specs.Holds.{rest_after}
-use Rattle.rail_plan.specs.Reading.{Refusal, admitted_plan, unless}
+use Rattle.rail_plan.specs.Reading.{Refusal, unless}
 use Rattle.rail_plan.specs.WellFormed.{is_placed, may_go_on, misplaced, misplaced_in, past, placed_badly}
 use Rattle.rail_base.proofs.Lists.{in_append, in_append_right, in_filter_back, in_flat_map, in_flat_map_back, in_map, in_map_back}
 use Rattle.rail_base.proofs.Members.{false_unless, in_filter, or_right}
 use Rattle.std.proofs.lemmas.List.Sums.{sum_by-cons}
-use Rattle.plan_faults.specs.Kept.{keeper, lacking_mm, routes_between, wanted_mm}
+use Rattle.plan_faults.specs.Kept.{keeper, routes_between, wanted_mm}
 use Rattle.plan_faults.specs.Laws.{BlockedHasKeeper, HasKeeper, HasReason, Lacks, MisplacedHasReason}
 use Rattle.plan_faults.proofs.Reasoned.{find_in, reason_there}
 
@@ -157,7 +156,7 @@ module _ (d : Station) (routes : List Route) (plan : List (List Command)) where
 
   -- why a command keeps another from a section
   keeps_why : (e c : Command) (z : SectionNo) → keeps_from d routes plan c z e ≡ true → (step_of plan e ≡ step_of plan c) ⊎ Lacks d routes plan e c z
-  keeps_why e c z h = go (not (is_train e.train c.train)) (has_section (route_at routes e.route) z) (step_of plan e == step_of plan c) (nat_lt (step_of plan e) (step_of plan c)) (can_clear d routes plan e c z) refl refl refl h
+  keeps_why e c z h = go (not (is_train e.train c.train)) (has_section (route_at routes e.route) z) (goes_over (route_at routes e.route) z) (step_of plan e == step_of plan c) (nat_lt (step_of plan e) (step_of plan c)) (can_clear d routes plan e c z) refl refl refl h
     where
       given : List Route
       given = routes_between d routes plan e c
@@ -168,14 +167,17 @@ module _ (d : Station) (routes : List Route) (plan : List (List Command)) where
       short : can_clear d routes plan e c z ≡ false → (1 ≤ rest_after wanted given) × (sum_by length_mm given + rest_after wanted given ≡ wanted)
       short f = rest_short wanted given f
 
-      go : (a b s l f : Bool) → (step_of plan e == step_of plan c) ≡ s → nat_lt (step_of plan e) (step_of plan c) ≡ l → can_clear d routes plan e c z ≡ f
-          → (a && b && (s || (l && not f))) ≡ true → (step_of plan e ≡ step_of plan c) ⊎ Lacks d routes plan e c z
-      go true true true l f es el ef k = inl (eqb-true (step_of plan e) (step_of plan c) es)
-      go true true false true false es el ef k = let less = leb-true (suc (step_of plan e)) (step_of plan c) el in let s = short ef in inr (less, s.0, s.1)
-      go true true false true true es el ef k = cc
-      go true true false false f es el ef k = cc
-      go true false s l f es el ef k = cc
-      go false b s l f es el ef k = cc
+      go : (a b o s l f : Bool) → (step_of plan e == step_of plan c) ≡ s → nat_lt (step_of plan e) (step_of plan c) ≡ l → can_clear d routes plan e c z ≡ f
+          → (a && ((b && s) || (o && l && not f))) ≡ true → (step_of plan e ≡ step_of plan c) ⊎ Lacks d routes plan e c z
+      go true b o true l f es el ef k = inl (eqb-true (step_of plan e) (step_of plan c) es)
+      go true b true false true false es el ef k = let less = leb-true (suc (step_of plan e)) (step_of plan c) el in let s = short ef in inr (less, s.0, s.1)
+      go true true true false true true es el ef k = cc
+      go true false true false true true es el ef k = cc
+      go true true true false false f es el ef k = cc
+      go true false true false false f es el ef k = cc
+      go true true false false l f es el ef k = cc
+      go true false false false l f es el ef k = cc
+      go false b o s l f es el ef k = cc
 
   pub blocked_has_keeper : BlockedHasKeeper d routes plan
   blocked_has_keeper i t z e = go (refused_in P3 (misplaced d routes 256 plan) P4 (place.Section i t z) (unless P4 (blocked d routes plan) (Ok plan)) e)

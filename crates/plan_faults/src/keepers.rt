@@ -6,7 +6,7 @@ ghost use Rattle.rail_plan.specs.Executable.{keeps_from};
 ghost use Rattle.plan_faults.specs.Kept.{keeper};
 
 use crate::between::can_clear;
-use crate::routes::has_section;
+use crate::routes::{goes_over, has_section};
 use interlocking::Interlocking;
 use rail_base::list::List;
 use rail_base::plan::{Command, Plan};
@@ -14,8 +14,8 @@ use rail_base::station::SectionNo;
 use rail_plan::paths::step_of;
 use std::alloc::{AllocError, Global};
 
-/// Whether another command keeps a command from a section: it has it too, for another train, in the same step, or in an
-/// earlier one and can't clear it.
+/// Whether another command keeps a command from a section: for another train, it has it too in the same step, or goes
+/// over it in an earlier one and can't clear it.
 fn keeps_from(
     alloc: Global,
     interlocking: &Interlocking,
@@ -27,17 +27,16 @@ fn keeps_from(
     ensures { let i = interlocking.now in IfOk result (λ answer.
         answer ≡ keeps_from i.design.station i.routes plan.now.steps command section other) }
 {
-    if other.train.0 == command.train.0
-        || !has_section(&interlocking.routes, other.route, section)
-    {
+    if other.train.0 == command.train.0 {
         return Ok(false);
     }
+    let routes = &interlocking.routes;
     let there = step_of(plan, other);
     let here = step_of(plan, command);
     if there == here {
-        return Ok(true);
+        return Ok(has_section(routes, other.route, section));
     }
-    if here < there {
+    if here < there || !goes_over(routes, other.route, section) {
         return Ok(false);
     }
     Ok(!can_clear(alloc, interlocking, plan, other, command, section)?)

@@ -1,7 +1,7 @@
 //! Routes by number; one that is not there starts and ends nowhere, and has no length and no section.
 
 ghost use Rattle.std.specs.Prelude.{◌≡◌};
-ghost use Rattle.rail_base.specs.Routes.{exits, has_section, length_mm, release_offset, route_at};
+ghost use Rattle.rail_base.specs.Routes.{exits, goes_over, has_section, length_mm, release_offset, route_at};
 
 use rail_base::names::entry;
 use rail_base::route::{Finish, RouteNo, RouteTable, Start};
@@ -48,6 +48,16 @@ pub(crate) fn exits(routes: &RouteTable, route: RouteNo) -> bool
 }
 
 /// Whether it goes over a section.
+pub(crate) fn goes_over(routes: &RouteTable, route: RouteNo, section: SectionNo) -> bool
+    ensures { result ≡ goes_over (route_at routes.now route) section }
+{
+    match entry(routes.as_slice(), route.0 as usize) {
+        Some(route) => route.goes_over(section),
+        None => false,
+    }
+}
+
+/// Whether it has a section, as its own or of the overlap at its end.
 pub(crate) fn has_section(routes: &RouteTable, route: RouteNo, section: SectionNo) -> bool
     ensures { result ≡ has_section (route_at routes.now route) section }
 {

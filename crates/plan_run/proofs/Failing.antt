@@ -66,7 +66,7 @@ HasNoVisitAt k history = (t : TrainNo) (j : ℕ) → is_at k (visit_tick history
 pub no_visit_at : (k : ℕ) (history : List TrainHistory) → has_visit_at k history ≡ false → HasNoVisitAt k history
 no_visit_at k history none t j =
     entry_fails (λ v. is_at k (option_map (λ (m : NodeNo × ℕ). m.1) v)) None (history_of history t).visits j refl
-    (entry_fails (makes_visit_at k) (record { grants = []; passes = []; releases = []; visits = []; dwells = [] }) history t.0 refl none)
+    (entry_fails (makes_visit_at k) (record { grants = []; passes = []; releases = []; holds = []; visits = []; dwells = [] }) history t.0 refl none)
 
 -- ---- nothing is certain then
 
@@ -111,7 +111,7 @@ module _ (d : Station) (routes : List Route) (plan : List (List Command)) where
   no_history k t j none = ap (λ (h : TrainHistory). visit_of h) (nobody t.0 none) ∙ empty j
     where
       other : TrainHistory
-      other = record { grants = []; passes = []; releases = []; visits = []; dwells = [] }
+      other = record { grants = []; passes = []; releases = []; holds = []; visits = []; dwells = [] }
 
       visit_of : TrainHistory → Option ℕ
       visit_of h = visit_tick (h ∷ []) (record { 0 = 1 }) j

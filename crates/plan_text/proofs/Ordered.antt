@@ -11,7 +11,7 @@ use Rattle.rail_base.specs.Numbering.{count_from, one_to, entry}
 use Rattle.rail_base.specs.Stations.{IsTrain, train_of, train_length, trains}
 use Rattle.rail_base.proofs.Members.{and_left, false_unless, filter-append, list_all_at}
 use Rattle.rail_base.proofs.Lists.{in_filter_back, in_flat_map, in_flat_map_back, in_map_back, list_all_from}
-use Rattle.rail_spec.specs.Plans.{is_train, is_command, commands, routes_given, path, step_of, given_between, may_stand, is_executable, route_at, length_mm, release_offset, exits, share, shared}
+use Rattle.rail_spec.specs.Plans.{is_train, is_command, commands, routes_given, path, step_of, given_between, may_stand, is_executable, route_at, length_mm, release_offset, exits, share, own_shared}
 use Rattle.rail_spec.specs.Feasible.{is_of, names_only}
 use Rattle.rail_plan.specs.WellFormed.{is_placed, may_go_on, misplaced, misplaced_in, placed_badly}
 use Rattle.rail_plan.specs.declared.place.PlanPlace.TheVariants as place
@@ -182,7 +182,7 @@ module _ (d : Station) where
         abbrev stand : ℕ → ℕ → List Command → Bool
         stand a b given =
             is_train e.train c.train || not (share (route_at routes e.route) (route_at routes c.route)) || nat_lt b a
-            || (nat_lt a b && list_all (λ z. nat_le (release_offset (route_at routes e.route) z + train_length d e.train) (sum_by length_mm (map (λ g. route_at routes g.route) given)) || list_any exits (map (λ g. route_at routes g.route) given)) (shared (route_at routes e.route) (route_at routes c.route)))
+            || (nat_lt a b && list_all (λ z. nat_le (release_offset (route_at routes e.route) z + train_length d e.train) (sum_by length_mm (map (λ g. route_at routes g.route) given)) || list_any exits (map (λ g. route_at routes g.route) given)) (own_shared (route_at routes e.route) (route_at routes c.route)))
 
         same_stand : may_stand d routes (ordered plan) e c ≡ may_stand d routes plan e c
         same_stand =

@@ -14,19 +14,24 @@ use Rattle.rail_base.specs.Members.{In}
 use Rattle.rail_base.specs.Numbering.{entry, least, or_this, from_first, first_of_list, after_first}
 use Rattle.rail_base.specs.Stations.{IsTrain, trains, train_of, dwell_ticks}
 use Rattle.rail_spec.specs.Plans.{has_node}
-use Rattle.rail_base.specs.Routes.{route_at, sections}
+use Rattle.rail_base.specs.Routes.{route_at, held_sections, own_sections}
+use Rattle.rail_base.specs.declared.plan.Command.{Command}
 use Rattle.rail_base.proofs.Members.{map-map}
-use Rattle.rail_spec.specs.Dispatches.{Dispatch, state_of, state_at}
+use Rattle.rail_spec.specs.Dispatches.{Dispatch, state_of, has_come, has_released, pasts_at, state_at}
 use Rattle.rail_spec.specs.Visits.{pass_tick, passed, path_nodes_of_train, visits_of_train}
 use Rattle.rail_spec.specs.Places.{visits_at, visits_on}
 use Rattle.rail_spec.specs.Requirements.{visit_numbers}
 use Rattle.rail_spec.specs.Histories.{dwell_up_to}
-use Rattle.quiet_spec.specs.Histories.{grant_tick, granted, released, visit_made, has_stood, dwell_tick, train_history, history_at}
+use Rattle.quiet_spec.specs.Histories.{grant_tick, granted, held_on, release_tick, released, released_of, visit_made, has_stood, dwell_tick, train_history, history_at}
 use Rattle.rail_require.proofs.Agreeing.{is_a_train}
+use Rattle.rail_course.specs.declared.journey.Hold.{Hold}
 use Rattle.rail_course.specs.declared.journey.Release.{Release}
+use Rattle.rail_course.specs.Holds.{hold_for, holds_of_route, holds_of_train}
 use Rattle.rail_course.specs.Releases.{release_for, releases_of_route, releases_of_train}
+use Rattle.rail_base.proofs.Sharing.{own_goes_over}
+use Rattle.rail_course.proofs.Showing.{ended_at, released_shown}
 use Rattle.quiet_spec.specs.Quiet.{IsQuiet, drift}
-use Rattle.quiet_spec.proofs.Drifting.{map-same, apart_same, event_same, drift_granted, drift_within, drift_stood_within, go_on}
+use Rattle.quiet_spec.proofs.Drifting.{map-same, hold_same, apart_same, event_same, drift_granted, drift_within, drift_stood_within, go_on}
 use Rattle.rail_base.proofs.Lists.{map-flat_map, flat_map-each}
 use Rattle.rail_base.specs.Events.{has_happened}
 
@@ -81,20 +86,41 @@ in_visits_on (set ∷ sets) ps p (inr m) = in_after ps p (in_visits_at sets (aft
 
 -- ---- releases, as a history lists them
 
+least_each : (f g : ℕ → Bool) (k : ℕ) → ((i : ℕ) → f i ≡ g i) → least f k ≡ least g k
+least_each f g zero h = refl
+least_each f g (suc k) h = ap₂ (λ o b. or_this o b (suc k)) (least_each f g k h) (h (suc k))
+
 module _ (d : Station) (routes : List Route) (dispatch : Dispatch) (t : TrainNo) where
   abbrev pub release : ℕ → Release → RouteNo × SectionNo × Option ℕ
   release k r = (r.route, r.section, least (λ i. has_happened (state_of (state_at d routes dispatch i) t) r.event) k)
 
+  released_of_route : (k : ℕ) (r : RouteNo) → map (release k) (releases_of_route d routes dispatch t r) ≡ released_of d routes dispatch k t r (own_sections (route_at routes r))
+  released_of_route k r =
+      map-map (release k) (release_for d routes dispatch c) (own_sections (route_at routes r))
+      ∙ map-same (λ z. release k (release_for d routes dispatch c z)) (λ z. (r, z, release_tick d routes dispatch k c z)) (own_sections (route_at routes r))
+      (λ z m. ap (λ o. (r, z, o)) (least_each (λ i. has_happened (state_of (state_at d routes dispatch i) t) (release_for d routes dispatch c z).event) (λ i. has_released d routes dispatch (pasts_at d routes dispatch i) c z) k
+      (λ i. released_shown d routes dispatch i c z (own_goes_over (route_at routes r) z m))))
+    where
+      c : Command
+      c = record { train = t; route = r }
+
   pub released_is : (k : ℕ) → map (release k) (releases_of_train d routes dispatch t) ≡ released d routes dispatch k t
   released_is k =
       map-flat_map (release k) (releases_of_route d routes dispatch t) (dispatch.path t)
-      ∙ flat_map-each (λ r. map (release k) (releases_of_route d routes dispatch t r)) _ (dispatch.path t) (λ r. map-map (release k) (release_for d routes dispatch (record { train = t; route = r })) (sections (route_at routes r)))
+      ∙ flat_map-each (λ r. map (release k) (releases_of_route d routes dispatch t r)) (λ r. released_of d routes dispatch k t r (own_sections (route_at routes r))) (dispatch.path t) (released_of_route k)
+
+  -- and the ends of holds
+  pub held_is : (k : ℕ) → map (ended_at d routes dispatch k) (holds_of_train d routes dispatch t) ≡ held_on d routes dispatch k t
+  held_is k =
+      map-flat_map (ended_at d routes dispatch k) (holds_of_route d routes dispatch t) (dispatch.path t)
+      ∙ flat_map-each (λ r. map (ended_at d routes dispatch k) (holds_of_route d routes dispatch t r)) (λ r. released_of d routes dispatch k t r (held_sections (route_at routes r))) (dispatch.path t)
+      (λ r. map-map (ended_at d routes dispatch k) (hold_for d routes dispatch (record { train = t; route = r })) (held_sections (route_at routes r)))
 
 -- ---- the history
 
-told_same : (g h : List (RouteNo × Option ℕ)) (p q : List (NodeNo × Option ℕ)) (r s : List (RouteNo × SectionNo × Option ℕ)) (v w : List (Option (NodeNo × ℕ))) (x y : List (Option ℕ)) → g ≡ h → p ≡ q → r ≡ s → v ≡ w → x ≡ y
-    → ◌≡◌ {A = TrainHistory} (record { grants = g; passes = p; releases = r; visits = v; dwells = x }) (record { grants = h; passes = q; releases = s; visits = w; dwells = y })
-told_same g h p q r s v w x y a b c e f = cc
+told_same : (g h : List (RouteNo × Option ℕ)) (p q : List (NodeNo × Option ℕ)) (r s l m : List (RouteNo × SectionNo × Option ℕ)) (v w : List (Option (NodeNo × ℕ))) (x y : List (Option ℕ)) → g ≡ h → p ≡ q → r ≡ s → l ≡ m → v ≡ w → x ≡ y
+    → ◌≡◌ {A = TrainHistory} (record { grants = g; passes = p; releases = r; holds = l; visits = v; dwells = x }) (record { grants = h; passes = q; releases = s; holds = m; visits = w; dwells = y })
+told_same g h p q r s l m v w x y a b c n e f = cc
 
 -- the history of a train stays where its tests answer as before
 module _ (d : Station) (routes : List Route) (dispatch : Dispatch) (t : TrainNo) (k j : ℕ) (low : 1 ≤ k) where
@@ -104,6 +130,7 @@ module _ (d : Station) (routes : List Route) (dispatch : Dispatch) (t : TrainNo)
   module _ (same : (i : ℕ) → i ≤ j → (at (k + i)).granted ≡ (at k).granted)
       (passes : (p : PathNode) → In p (path_nodes_of_train d routes dispatch t) → (i : ℕ) → i ≤ j → has_happened (at (k + i)) p.event ≡ has_happened (at k) p.event)
       (outs : (r : Release) → In r (releases_of_train d routes dispatch t) → (i : ℕ) → i ≤ j → has_happened (at (k + i)) r.event ≡ has_happened (at k) r.event)
+      (held : (h : Hold) → In h (holds_of_train d routes dispatch t) → (i : ℕ) → i ≤ j → has_come (pasts_at d routes dispatch (k + i)) h.event ≡ has_come (pasts_at d routes dispatch k) h.event)
       (standing : (m i : ℕ) → i ≤ j → has_stood d routes dispatch t m (k + i) ≡ has_stood d routes dispatch t m k) where
     grants_stay : granted d routes dispatch (k + j) t ≡ granted d routes dispatch k t
     grants_stay = map-same (λ p. (p.1, grant_tick d routes dispatch (k + j) t p.0)) (λ p. (p.1, grant_tick d routes dispatch k t p.0)) (enumerate_from 1 (dispatch.path t))
@@ -122,6 +149,13 @@ module _ (d : Station) (routes : List Route) (dispatch : Dispatch) (t : TrainNo)
         (λ r m. ap (λ o. (r.route, r.section, o)) (least_same (λ i. has_happened (at i) r.event) k j low (λ i l. outs r m i l)))
         ∙ released_is d routes dispatch t k
 
+    holds_stay : held_on d routes dispatch (k + j) t ≡ held_on d routes dispatch k t
+    holds_stay =
+        sym (held_is d routes dispatch t (k + j))
+        ∙ map-same (ended_at d routes dispatch (k + j)) (ended_at d routes dispatch k) (holds_of_train d routes dispatch t)
+        (λ h m. ap (λ o. (h.route, h.section, o)) (least_same (λ i. has_come (pasts_at d routes dispatch i) h.event) k j low (λ i l. held h m i l)))
+        ∙ held_is d routes dispatch t k
+
     visits_stay : map (visit_made d routes dispatch (k + j) t) (visits_of_train d routes dispatch t) ≡ map (visit_made d routes dispatch k t) (visits_of_train d routes dispatch t)
     visits_stay = map-same (visit_made d routes dispatch (k + j) t) (visit_made d routes dispatch k t) (visits_of_train d routes dispatch t) one
       where
@@ -136,7 +170,7 @@ module _ (d : Station) (routes : List Route) (dispatch : Dispatch) (t : TrainNo)
     dwells_stay = map-same (dwell_tick d routes dispatch (k + j) t) (dwell_tick d routes dispatch k t) (visit_numbers d t) (λ m i. dwell_stays m)
 
     pub train_as_tested : train_history d routes dispatch (k + j) t ≡ train_history d routes dispatch k t
-    train_as_tested = told_same _ _ _ _ _ _ _ _ _ _ grants_stay passes_stay releases_stay visits_stay dwells_stay
+    train_as_tested = told_same _ _ _ _ _ _ _ _ _ _ _ _ grants_stay passes_stay releases_stay holds_stay visits_stay dwells_stay
 
 module _ (d : Station) (routes : List Route) (dispatch : Dispatch) (k n : ℕ) (low : 1 ≤ k) (quiet : IsQuiet d routes dispatch k n) (t : TrainNo) (train : IsTrain d t) where
   abbrev now : ℕ → TrainState
@@ -160,6 +194,13 @@ module _ (d : Station) (routes : List Route) (dispatch : Dispatch) (k n : ℕ) (
       ∙ event_same (now k) (drift d routes dispatch t k i (now k)) end r.event (drift_granted d routes dispatch t (now k).granted k i (now k) refl)
       (drift_within d routes dispatch t (now k).granted k 0 i (now k) (omega arith)) (drift_within d routes dispatch t (now k).granted k i n (now k) within) ((quiet.each t train).places.releases r m)
 
+  held_same : (h : Hold) → In h (holds_of_train d routes dispatch t) → (i : ℕ) → i ≤ n → has_come (pasts_at d routes dispatch (k + i)) h.event ≡ has_come (pasts_at d routes dispatch k) h.event
+  held_same h m i within =
+      hold_same d routes dispatch t h m k (k + i) (k + n) (omega arith) (omega arith) (quiet.each t train).holds
+      (ap (λ s. has_happened s h.event.event) (go_on d routes dispatch k n quiet i within t train)
+      ∙ event_same (now k) (drift d routes dispatch t k i (now k)) end h.event.event (drift_granted d routes dispatch t (now k).granted k i (now k) refl)
+      (drift_within d routes dispatch t (now k).granted k 0 i (now k) (omega arith)) (drift_within d routes dispatch t (now k).granted k i n (now k) within) ((quiet.each t train).places.holds h m))
+
   stood_same : (m i : ℕ) → i ≤ n → has_stood d routes dispatch t m (k + i) ≡ has_stood d routes dispatch t m k
   stood_same m i within =
       ap (λ s. nat_le (dwell_up_to d t m) s.stood) (go_on d routes dispatch k n quiet i within t train)
@@ -168,7 +209,7 @@ module _ (d : Station) (routes : List Route) (dispatch : Dispatch) (k n : ℕ) (
 
   pub train_same : (j : ℕ) → j ≤ n → train_history d routes dispatch (k + j) t ≡ train_history d routes dispatch k t
   train_same j within =
-      train_as_tested d routes dispatch t k j low (λ i l. granted_same i (omega arith)) (λ p m i l. pass_same p m i (omega arith)) (λ r m i l. release_same r m i (omega arith)) (λ m i l. stood_same m i (omega arith))
+      train_as_tested d routes dispatch t k j low (λ i l. granted_same i (omega arith)) (λ p m i l. pass_same p m i (omega arith)) (λ r m i l. release_same r m i (omega arith)) (λ h m i l. held_same h m i (omega arith)) (λ m i l. stood_same m i (omega arith))
 
 pub history_same : (d : Station) (routes : List Route) (dispatch : Dispatch) (k n : ℕ) → 1 ≤ k → IsQuiet d routes dispatch k n → (j : ℕ) → j ≤ n → history_at d routes dispatch (k + j) ≡ history_at d routes dispatch k
 history_same d routes dispatch k n low quiet j within =

@@ -220,7 +220,7 @@ module _ (d : Station) where
       let whole = two (are_few d && is_timed d && are_named d && is_sound_track d && is_sound_traffic d) (are_sound_overlaps d) h in
       let all = five (are_few d) (is_timed d) (are_named d) (is_sound_track d) (is_sound_traffic d) whole.0 in
       let few = seven (nat_le (length d.nodes) 2000) (nat_le (length d.edges) 4000) (nat_le (length d.signals) 1000) (nat_le (length d.vehicles) 64) (is_from 1 128 (length d.trains)) (nat_le (length d.orders) 256) (nat_le (length d.withins) 256) all.0 in
-      let time = three (is_from 1 3 d.version) (is_from 100 1000 d.tick_ms) (is_from 1 86400 (horizon d)) all.1 in
+      let time = three (is_from 1 4 d.version) (is_from 100 1000 d.tick_ms) (is_from 1 86400 (horizon d)) all.1 in
       let n1 = are_names (map (λ (n : Node). n.name) d.nodes) in
       let n2 = are_names (map (λ (e : Edge). e.name) d.edges) in
       let n3 = are_names d.sections in
@@ -234,7 +234,7 @@ module _ (d : Station) where
       let overlaps = three (nat_le (length d.overlaps) (most_overlaps d)) (list_all (is_good_overlap d) d.overlaps) (all_pairs (λ a b. not (a.signal.0 == b.signal.0)) d.overlaps) whole.1 in
       let number : ℕ → NodeNo = λ n. record { 0 = n } in
       record {
-        version = ranged 1 3 d.version time.0;
+        version = ranged 1 4 d.version time.0;
         tick = ranged 100 1000 d.tick_ms time.1;
         ticks = ranged 1 86400 (horizon d) time.2;
         many_nodes = up_to _ _ few.0;

@@ -125,7 +125,7 @@ are_few d = nat_le (length d.nodes) 2000 && nat_le (length d.edges) 4000 && nat_
 
 -- the version, the tick and the horizon
 abbrev pub is_timed : Station → Bool
-is_timed d = is_from 1 3 d.version && is_from 100 1000 d.tick_ms && is_from 1 86400 (horizon d)
+is_timed d = is_from 1 4 d.version && is_from 100 1000 d.tick_ms && is_from 1 86400 (horizon d)
 
 -- the names in each array
 abbrev pub are_named : Station → Bool

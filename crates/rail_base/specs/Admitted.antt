@@ -97,7 +97,7 @@ pub record IsGoodOverlap (d : Station) (o : Overlap) : Type 0 where
 
 -- the design is one that the reader answers
 pub record IsAdmitted (d : Station) : Type 0 where
-  pub version : Ranges 1 3 d.version
+  pub version : Ranges 1 4 d.version
   pub tick : Ranges 100 1000 d.tick_ms
   pub ticks : Ranges 1 86400 (horizon d)
   pub many_nodes : length d.nodes ≤ 2000

@@ -12,8 +12,10 @@ pub struct TrainHistory {
     pub grants: List<(RouteNo, Option<u64>)>,
     /// The nodes of its path, in path order.
     pub passes: List<(NodeNo, Option<u64>)>,
-    /// The sections of each route of its path, in path order.
+    /// The sections that each route of its path goes over, in path order.
     pub releases: List<(RouteNo, SectionNo, Option<u64>)>,
+    /// The sections of the overlap at the end of each route of its path, in path order.
+    pub holds: List<(RouteNo, SectionNo, Option<u64>)>,
     /// Its visits, in order, each with the node at which it was made.
     pub visits: List<Option<(NodeNo, u64)>>,
     /// For each visit the tick at which it has stood long enough there; none where it need not stand, or has not yet.

@@ -1,6 +1,7 @@
 //! Elementary routes.
 
 ghost use Rattle.std.specs.Prelude.{◌≡◌, ◌≤◌, length};
+ghost use Rattle.std.specs.List.{list_any};
 ghost use Rattle.rail_base.specs.Routes.{IsRoute, route_at};
 
 use crate::list::List;
@@ -61,7 +62,8 @@ pub fn route_at(routes: &RouteTable, number: RouteNo) -> &Route
 }
 
 impl Route {
-    ghost use Rattle.rail_base.specs.Routes.{exits, has_section, length_mm, release_offset, share};
+    ghost use Rattle.rail_base.specs.Routes.{exits, goes_over, has_section, hold_ms, length_mm};
+    ghost use Rattle.rail_base.specs.Routes.{overlaps, release_offset, share};
 
     /// The length of the route, in mm.
     pub fn length_mm(&self) -> u64
@@ -78,8 +80,8 @@ impl Route {
     }
 
     /// Whether it goes over a section.
-    pub fn has_section(&self, section: SectionNo) -> bool
-        ensures { result ≡ has_section self.now section }
+    pub fn goes_over(&self, section: SectionNo) -> bool
+        ensures { result ≡ goes_over self.now section }
     {
         self.sections
             .as_slice()
@@ -87,9 +89,26 @@ impl Route {
             .any(|part| part.0.0 == section.0)
     }
 
-    /// Whether the two routes have a section in common.
-    pub fn share(&self, other: &Route) -> bool
-        ensures { result ≡ share self.now other.now }
+    /// Whether a section is one of the overlap at its end.
+    pub fn overlaps(&self, section: SectionNo) -> bool
+        ensures { result ≡ overlaps self.now section }
+    {
+        self.overlaps
+            .as_slice()
+            .iter()
+            .any(|part| part.section.0 == section.0)
+    }
+
+    /// Whether it has a section, as its own or of the overlap at its end.
+    pub fn has_section(&self, section: SectionNo) -> bool
+        ensures { result ≡ has_section self.now section }
+    {
+        self.goes_over(section) || self.overlaps(section)
+    }
+
+    /// Whether the other route has one of the sections that this one goes over.
+    pub fn shares_own(&self, other: &Route) -> bool
+        ensures { result ≡ list_any (λ p. has_section other.now p.0) self.now.sections }
     {
         self.sections
             .as_slice()
@@ -97,7 +116,24 @@ impl Route {
             .any(|part| other.has_section(part.0))
     }
 
-    /// Where the last edge of a section ends, in mm from the route's start; 0 where the route has no such section.
+    /// Whether it has one of the sections of the overlap at this one's end.
+    pub fn shares_overlap(&self, other: &Route) -> bool
+        ensures { result ≡ list_any (λ p. has_section other.now p.section) self.now.overlaps }
+    {
+        self.overlaps
+            .as_slice()
+            .iter()
+            .any(|part| other.has_section(part.section))
+    }
+
+    /// Whether the two routes have a section in common.
+    pub fn share(&self, other: &Route) -> bool
+        ensures { result ≡ share self.now other.now }
+    {
+        self.shares_own(other) || self.shares_overlap(other)
+    }
+
+    /// Where the last edge of a section ends, in mm from the route's start; 0 where the route doesn't go over it.
     pub fn release_offset(&self, section: SectionNo) -> u64
         ensures { result ≡ release_offset self.now section }
     {
@@ -107,5 +143,17 @@ impl Route {
             .filter(|part| part.0.0 == section.0)
             .map(|part| part.1.unsigned_abs())
             .fold(0, |most, offset| most.max(offset))
+    }
+
+    /// How long a section of the overlap at its end is held after the train's arrival there, in ms; 0 for any other.
+    pub fn hold_ms(&self, section: SectionNo) -> u32
+        ensures { result ≡ hold_ms self.now section }
+    {
+        self.overlaps
+            .as_slice()
+            .iter()
+            .filter(|part| part.section.0 == section.0)
+            .map(|part| part.hold_ms)
+            .fold(0, |most, hold| most.max(hold))
     }
 }

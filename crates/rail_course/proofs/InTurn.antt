@@ -1,5 +1,5 @@
 -- What stands on a later route of a path is no nearer.
-use Rattle.std.proofs.Common.{◌≡◌, ℕ, zero, suc, ◌+◌, ◌≤◌, ◌<◌, ◌⊎◌, inl, inr, Bool, true, false, if◌then◌else◌, List, [], ◌∷◌, ◌++◌, map, length, take, nat_abs, ℤ, sum_by, refl, ap, ap₂, ◌∙◌, subst, arith, eq-eqb, eqb-true}
+use Rattle.std.proofs.Common.{◌≡◌, ℕ, zero, suc, ◌+◌, ◌≤◌, ◌<◌, ◌⊎◌, inl, inr, Bool, true, false, if◌then◌else◌, List, [], ◌∷◌, ◌++◌, map, length, take, nat_abs, ℤ, sum_by, refl, sym, ap, ap₂, ◌∙◌, subst, arith, eq-eqb, eqb-true}
 use Rattle.std.proofs.lemmas.List.Sums.{sum_by-cons}
 use Rattle.rail_base.specs.declared.station.Station.{Station}
 use Rattle.rail_base.specs.declared.station.NodeNo.{NodeNo}
@@ -11,10 +11,11 @@ use Rattle.rail_base.specs.declared.state.PathNode.{PathNode}
 use Rattle.rail_base.specs.Members.{In}
 use Rattle.rail_base.specs.Numbering.{after_first, before_first}
 use Rattle.rail_base.specs.Stations.{train_length}
-use Rattle.rail_base.specs.Routes.{route_at, sections, length_mm}
+use Rattle.rail_base.specs.Routes.{route_at, own_sections, length_mm}
 use Rattle.rail_base.proofs.Lists.{in_append, in_flat_map_back, in_map_back, length-map}
 use Rattle.rail_base.proofs.Members.{below_or_not}
 use Rattle.rail_spec.specs.Plans.{is_route}
+use Rattle.rail_base.specs.declared.state.Event.{Event}
 use Rattle.rail_spec.specs.Dispatches.{Dispatch}
 use Rattle.rail_spec.specs.Places.{path_nodes_of, path_nodes_after, path_nodes}
 use Rattle.rail_course.specs.declared.journey.Release.{Release}
@@ -23,6 +24,8 @@ use Rattle.rail_course.specs.PathNodes.{path_node_at}
 use Rattle.rail_course.specs.Releases.{release_for, releases_of_route, releases_of_train}
 use Rattle.rail_course.specs.Tracks.{AreLaid, routes_at}
 use Rattle.rail_course.proofs.Granting.{in_from_all}
+use Rattle.rail_base.proofs.Sharing.{own_goes_over}
+use Rattle.rail_course.proofs.Holding.{release_is_own}
 
 -- ---- the nodes of a path
 
@@ -128,26 +131,30 @@ module _ (d : Station) (routes : List Route) (laid : AreLaid d routes) where
 
   module _ (p : Dispatch) (t : TrainNo) where
     -- a release is no nearer than where its route begins, and no farther than where it ends, and the train's length behind
-    abbrev IsBetween : Release → Type 0
-    IsBetween x = (n : ℕ) × (x.event.granted ≡ suc n) × (length_to (p.path t) n + train_length d t ≤ x.event.place)
-        × (x.event.place ≤ length_to (p.path t) (suc n) + train_length d t)
+    abbrev Between : Event → Type 0
+    Between e = (n : ℕ) × (e.granted ≡ suc n) × (length_to (p.path t) n + train_length d t ≤ e.place)
+        × (e.place ≤ length_to (p.path t) (suc n) + train_length d t)
 
-    on_route : (r : RouteNo) (z : SectionNo) → In r (p.path t) → IsBetween (release_for d routes p (record { train = t; route = r }) z)
-    on_route r z m =
+    abbrev IsBetween : Release → Type 0
+    IsBetween x = Between x.event
+
+    on_route : (r : RouteNo) (z : SectionNo) → In r (p.path t) → In z (own_sections (route_at routes r)) → IsBetween (release_for d routes p (record { train = t; route = r }) z)
+    on_route r z m own =
+        let own_release = release_is_own d routes p (record { train = t; route = r }) z (own_goes_over (route_at routes r) z own) in
         let number = length-map (route_at routes) (before (p.path t) r) in
         let first = ap (sum_by length_mm) (before_are_first (p.path t) r) in
         let up = up_to_it (p.path t) r m in
         let within = (laid.each r).releases z in
-        (length (before (p.path t) r), ap suc number, omega arith, omega arith)
+        subst (λ e. Between e.event) (sym own_release) (length (before (p.path t) r), ap suc number, omega arith, omega arith)
 
     between : (x : Release) → In x (releases_of_train d routes p t) → IsBetween x
     between x m = go (in_flat_map_back (releases_of_route d routes p t) (p.path t) x m)
       where
-        here : (r : RouteNo) → In r (p.path t) → ((z : SectionNo) × In z (sections (route_at routes r)) × (release_for d routes p (record { train = t; route = r }) z ≡ x)) → IsBetween x
-        here r k (z, l, same) = subst IsBetween same (on_route r z k)
+        here : (r : RouteNo) → In r (p.path t) → ((z : SectionNo) × In z (own_sections (route_at routes r)) × (release_for d routes p (record { train = t; route = r }) z ≡ x)) → IsBetween x
+        here r k (z, l, same) = subst IsBetween same (on_route r z k l)
 
         go : ((r : RouteNo) × In r (p.path t) × In x (releases_of_route d routes p t r)) → IsBetween x
-        go (r, k, i) = here r k (in_map_back (release_for d routes p (record { train = t; route = r })) (sections (route_at routes r)) x i)
+        go (r, k, i) = here r k (in_map_back (release_for d routes p (record { train = t; route = r })) (own_sections (route_at routes r)) x i)
 
     pub releases_in_turn : ComeInTurn (λ (r : Release). r.event.place) (λ (r : Release). r.event.granted) (releases_of_train d routes p t)
     releases_in_turn x y m n less = go (below_or_not y.event.granted x.event.granted)

@@ -4,8 +4,17 @@ pub mod Walking
 pub mod Rises
 pub mod Granting
 pub mod Parting
+pub mod Merging
+pub mod Holding
 pub mod Waiting
+pub mod Asking
+pub mod Lasting
+pub mod Showing
+pub mod Giving
+pub mod Gathered
+pub mod Arriving
 pub mod Numbered
+pub mod Placed
 pub mod Prefixing
 pub mod Stopping
 pub mod InTurn

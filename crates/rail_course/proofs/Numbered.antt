@@ -1,5 +1,5 @@
 -- The train paths of all trains, by their numbers, and what stands before a command on its path.
-use Rattle.std.proofs.Common.{◌≡◌, ℕ, zero, suc, ◌+◌, ◌-◌, ◌<◌, ◌≤◌, Bool, true, false, ◌||◌, if◌then◌else◌, List, [], ◌∷◌, ◌++◌, map, flat_map, length, take, fold, max, get_or, drop, sum_by, refl, sym, ap, ◌∙◌, append_assoc, arith, length-append, ◌^◌, ◌⊎◌, inl, inr}
+use Rattle.std.proofs.Common.{◌≡◌, ℕ, zero, suc, ◌+◌, ◌-◌, ◌<◌, ◌≤◌, Bool, true, false, ◌||◌, if◌then◌else◌, List, [], ◌∷◌, ◌++◌, map, flat_map, length, take, get_or, drop, sum_by, refl, sym, ap, ◌∙◌, append_assoc, arith, length-append, ◌^◌, ◌⊎◌, inl, inr}
 use Rattle.std.specs.List.{list_any}
 use Rattle.std.proofs.Math.Path.{fun_ext}
 use Rattle.std.proofs.lemmas.List.{append-nil, map-append, drop_more}
@@ -16,7 +16,6 @@ use Rattle.rail_spec.specs.Dispatches.{Dispatch, routes_before}
 use Rattle.rail_base.specs.Routes.{route_at, length_mm, exits}
 use Rattle.rail_base.proofs.Members.{below_or_not, get_or-counted, get_or-counted_past, map-map}
 use Rattle.rail_base.proofs.Lists.{length-map, length-count, count_step}
-use Rattle.rail_base.specs.declared.state.TrainEvent.{TrainEvent}
 use Rattle.rail_course.specs.declared.train_path.TrainPath.{TrainPath}
 use Rattle.rail_course.specs.declared.prefixes.PathPrefix.{PathPrefix}
 use Rattle.rail_course.specs.Prefixes.{prefix_of, longer, prefixes_from, no_prefix}
@@ -98,13 +97,13 @@ many_prefixes rs = length-prefixes no_prefix rs
 
 -- two prefixes behind one another
 abbrev joined : PathPrefix → PathPrefix → PathPrefix
-joined f g = record { spans = f.spans + g.spans; length = f.length + g.length; exits = f.exits || g.exits }
+joined f g = record { spans = f.spans + g.spans; length = f.length + g.length; holds = f.holds + g.holds; exits = f.exits || g.exits }
 
-abbrev prefix : ℕ → ℕ → Bool → PathPrefix
-prefix a m c = record { spans = a; length = m; exits = c }
+abbrev prefix : ℕ → ℕ → ℕ → Bool → PathPrefix
+prefix a m h c = record { spans = a; length = m; holds = h; exits = c }
 
-prefix_same : (a b m n : ℕ) (c e : Bool) → a ≡ b → m ≡ n → c ≡ e → prefix a m c ≡ prefix b n e
-prefix_same a b m n c e p q r = cc
+prefix_same : (a b m n h k : ℕ) (c e : Bool) → a ≡ b → m ≡ n → h ≡ k → c ≡ e → prefix a m h c ≡ prefix b n k e
+prefix_same a b m n h k c e p q s r = cc
 
 or-none : (b : Bool) → b ≡ (b || false)
 or-none true = refl
@@ -115,14 +114,15 @@ or-assoc true b c = refl
 or-assoc false b c = refl
 
 joined-none : (f : PathPrefix) → f ≡ joined f (prefix_of [])
-joined-none f = prefix_same f.spans (f.spans + 0) f.length (f.length + 0) f.exits (f.exits || false) (omega arith) (omega arith) (or-none f.exits)
+joined-none f = prefix_same f.spans (f.spans + 0) f.length (f.length + 0) f.holds (f.holds + 0) f.exits (f.exits || false) (omega arith) (omega arith) (omega arith) (or-none f.exits)
 
 joined-more : (f : PathPrefix) (r : Route) (rs : List Route) → joined (longer f r) (prefix_of rs) ≡ joined f (prefix_of (r ∷ rs))
 joined-more f r rs =
     let more = length-append r.edges (flat_map (λ (q : Route). q.edges) rs) in
     let length_more = sum_by-cons length_mm r rs in
-    prefix_same (f.spans + length r.edges + length (flat_map (λ (q : Route). q.edges) rs)) (f.spans + length (flat_map (λ (q : Route). q.edges) (r ∷ rs))) (f.length + length_mm r + sum_by length_mm rs) (f.length + sum_by length_mm (r ∷ rs)) _ _
-    (omega (arith, more)) (omega (arith, length_more)) (or-assoc f.exits (exits r) (list_any exits rs))
+    let held_more = length-append r.overlaps (flat_map (λ (q : Route). q.overlaps) rs) in
+    prefix_same (f.spans + length r.edges + length (flat_map (λ (q : Route). q.edges) rs)) (f.spans + length (flat_map (λ (q : Route). q.edges) (r ∷ rs))) (f.length + length_mm r + sum_by length_mm rs) (f.length + sum_by length_mm (r ∷ rs)) (f.holds + length r.overlaps + length (flat_map (λ (q : Route). q.overlaps) rs)) (f.holds + length (flat_map (λ (q : Route). q.overlaps) (r ∷ rs))) _ _
+    (omega (arith, more)) (omega (arith, length_more)) (omega (arith, held_more)) (or-assoc f.exits (exits r) (list_any exits rs))
 
 prefix_after : (f : PathPrefix) (rs : List Route) (g : ℕ) (other : PathPrefix) → g ≤ length rs → get_or (prefixes_from f rs) g other ≡ joined f (prefix_of (take g rs))
 prefix_after f [] zero other l = joined-none f
@@ -134,7 +134,7 @@ prefix_after f (r ∷ rs) (suc g) other l = prefix_after (longer f r) rs g other
 pub prefix_at : (rs : List Route) (g : ℕ) (other : PathPrefix) → g ≤ length rs → get_or (prefixes_from no_prefix rs) g other ≡ prefix_of (take g rs)
 prefix_at rs g other l =
     let f = prefix_of (take g rs) in
-    prefix_after no_prefix rs g other l ∙ prefix_same (0 + f.spans) f.spans (0 + f.length) f.length f.exits f.exits (omega arith) (omega arith) refl
+    prefix_after no_prefix rs g other l ∙ prefix_same (0 + f.spans) f.spans (0 + f.length) f.length (0 + f.holds) f.holds f.exits f.exits (omega arith) (omega arith) (omega arith) refl
 
 -- ---- what stands before a route
 
@@ -152,14 +152,7 @@ take-map f zero xs = refl
 take-map f (suc g) [] = refl
 take-map f (suc g) (x ∷ xs) = ap (λ ys. f x ∷ ys) (take-map f g xs)
 
--- ---- release offsets and waits
-
-abbrev wait : TrainNo → ℕ → ℕ → TrainEvent
-wait t n p = record { train = t; event = record { granted = n; place = p } }
-
-pub fold_within : {X : Type 0} (off : X → ℕ) (m a : ℕ) (zs : List X) → a ≤ m → ((z : X) → off z ≤ m) → fold max a (map off zs) ≤ m
-fold_within off m a [] low h = low
-fold_within off m a (z ∷ zs) low h = let k = h z in fold_within off m (max a (off z)) zs (omega arith) h
+-- ---- the first routes of a path
 
 pub length_within : (routes : List Route) (g : ℕ) (path : List RouteNo) → sum_by length_mm (take g (routes_at routes path)) ≤ path_length routes path
 length_within routes zero path = omega arith
@@ -184,45 +177,42 @@ module _ (d : Station) (routes : List Route) (p : Dispatch) (train_path : TrainP
   abbrev test : RouteNo → Bool
   test = λ r. is_route r e.route
 
-  abbrev number : ℕ
-  number = length (before_first test train_path.path.items)
+  abbrev pub number_before : ℕ
+  number_before = length (before_first test train_path.path.items)
 
   path_is : train_path.path.items ≡ p.path e.train
   path_is = is.given ∙ ap p.path same
 
-  pub number_is : number ≡ length (routes_before d routes p e)
+  pub number_is : number_before ≡ length (routes_before d routes p e)
   number_is = ap (λ rs. length (before_first test rs)) path_is ∙ sym (length-map (route_at routes) (before_first test (p.path e.train)))
 
-  number_within : number ≤ length (routes_at routes (p.path train_path.train))
+  number_within : number_before ≤ length (routes_at routes (p.path train_path.train))
   number_within =
       let l = before_within test train_path.path.items in
       let a = ap length is.given in
       let b = length-map (route_at routes) (p.path train_path.train) in
       omega arith
 
-  pub number_fits : number < length train_path.prefixes.items
+  pub number_fits : number_before < length train_path.prefixes.items
   number_fits = let l = number_within in let a = ap length is.parts in let b = many_prefixes (routes_at routes (p.path train_path.train)) in omega arith
 
-  routes_before_is : take number (routes_at routes (p.path train_path.train)) ≡ routes_before d routes p e
+  pub routes_before_is : take number_before (routes_at routes (p.path train_path.train)) ≡ routes_before d routes p e
   routes_before_is =
-      ap (λ t. take number (routes_at routes (p.path t))) same ∙ take-map (route_at routes) number (p.path e.train)
+      ap (λ t. take number_before (routes_at routes (p.path t))) same ∙ take-map (route_at routes) number_before (p.path e.train)
       ∙ ap (λ rs. map (route_at routes) (take (length (before_first test rs)) (p.path e.train))) path_is
       ∙ ap (map (route_at routes)) (before_take test (p.path e.train))
 
-  pub prefix_is : (other : PathPrefix) → (get_or train_path.prefixes.items number other).length ≡ sum_by length_mm (routes_before d routes p e)
+  pub prefix_is : (other : PathPrefix) → get_or train_path.prefixes.items number_before other ≡ prefix_of (routes_before d routes p e)
   prefix_is other =
-      let there : get_or train_path.prefixes.items number other ≡ prefix_of (take number (routes_at routes (p.path train_path.train))) = ap (λ fs. get_or fs number other) is.parts ∙ prefix_at (routes_at routes (p.path train_path.train)) number other number_within in
-      ap (λ (g : PathPrefix). g.length) there ∙ ap (sum_by length_mm) routes_before_is
+      ap (λ fs. get_or fs number_before other) is.parts ∙ prefix_at (routes_at routes (p.path train_path.train)) number_before other number_within
+      ∙ ap prefix_of routes_before_is
 
   pub before_short : sum_by length_mm (routes_before d routes p e) < 2 ^ 47
   before_short =
-      let l = length_within routes number (p.path train_path.train) in
+      let l = length_within routes number_before (p.path train_path.train) in
       let s = ap (sum_by length_mm) routes_before_is in
       let h = is.range.below_2_47 in
       omega arith
-
-pub wait_same : (t : TrainNo) (a b m n : ℕ) → a ≡ b → m ≡ n → wait t a m ≡ wait t b n
-wait_same t a b m n p q = cc
 
 -- ---- lists made one by one
 

@@ -1,26 +1,41 @@
 -- The sections of a route, each of which stands once in it.
-use Rattle.std.proofs.Common.{◌≡◌, ℕ, ◌+◌, ◌≤◌, ◌<◌, inl, inr, Bool, true, false, cond, ◌==◌, List, [], ◌∷◌, ◌++◌, map, filter, drop, get_or, fold, max, length, ℤ, nat_abs, refl, sym, ap, subst, ◌∙◌, append_assoc, arith, eq-eqb, eqb-true}
+use Rattle.std.proofs.Common.{◌≡◌, ℕ, suc, ◌+◌, ◌≤◌, ◌<◌, inl, inr, Bool, true, false, cond, ◌==◌, List, [], ◌∷◌, ◌++◌, map, flat_map, filter, find, drop, get_or, fold, max, length, sum_by, Option, None, Some, unwrap_or, ℤ, nat_abs, refl, sym, ap, subst, ◌∙◌, append_assoc, arith, eq-eqb, eqb-true}
 use Rattle.std.proofs.lemmas.List.{drop_more}
 use Rattle.rail_base.specs.declared.station.Station.{Station}
 use Rattle.rail_base.specs.declared.station.EdgeNo.{EdgeNo}
 use Rattle.rail_base.specs.declared.station.SectionNo.{SectionNo}
 use Rattle.rail_base.specs.declared.route.Route.{Route}
 use Rattle.rail_base.specs.declared.route.RouteNo.{RouteNo}
+use Rattle.rail_base.specs.declared.route.OverlapSection.{OverlapSection}
+use Rattle.rail_base.specs.declared.route.Finish.{Finish}
+use Rattle.rail_base.specs.declared.route.Finish.TheVariants as finish
+use Rattle.rail_base.specs.declared.station.Overlap.{Overlap}
+use Rattle.rail_base.specs.declared.plan.Command.{Command}
+use Rattle.rail_base.specs.declared.state.Event.{Event}
+use Rattle.rail_base.specs.declared.state.TrainEvent.{TrainEvent}
 use Rattle.rail_base.specs.Admitted.{IsAdmitted}
 use Rattle.rail_base.specs.Members.{In, Pairs}
-use Rattle.rail_base.specs.Routes.{no_route, route_at, length_mm, release_offset}
-use Rattle.rail_base.specs.Stations.{section_of}
+use Rattle.rail_base.specs.Routes.{no_route, route_at, goes_over, held_sections, hold_ms, length_mm, release_offset}
+use Rattle.rail_base.specs.Stations.{no_overlap, section_of, train_length, whole_ticks}
 use Rattle.rail_base.proofs.Admitting.{admitted}
 use Rattle.rail_base.proofs.Contained.{in_at}
 use Rattle.rail_base.proofs.Members.{false_unless}
 use Rattle.rail_base.proofs.Lists.{in_map, in_map_back}
-use Rattle.rail_spec.specs.Track.{first_occurrences, routes_of}
+use Rattle.rail_spec.specs.Track.{end_overlap, first_occurrences, routes_of}
+use Rattle.rail_spec.specs.Dispatches.{Dispatch, release, routes_before}
 use Rattle.rail_laws.proofs.Admits.{entry_is}
 use Rattle.rail_laws.proofs.RouteLaws.{route_is, walk_edges}
 use Rattle.rail_laws.proofs.AsEdges.{first_in, told}
+use Rattle.rail_laws.proofs.Beside.{beside}
+use Rattle.rail_laws.proofs.Verdicts.{found_in}
 use Rattle.interlocking.specs.declared.railway.Interlocking.{Interlocking}
 use Rattle.rail_course.specs.declared.journey.Release.{Release}
+use Rattle.rail_course.specs.declared.journey.Hold.{Hold}
+use Rattle.rail_course.specs.Holds.{hold_for}
+use Rattle.rail_course.specs.Releases.{release_for}
 use Rattle.rail_course.proofs.Granting.{laid_out}
+use Rattle.rail_base.proofs.Sharing.{own_goes_over}
+use Rattle.rail_course.proofs.Holding.{release_is_held, release_is_own}
 
 -- each part has a section of its own
 abbrev pub Once : List (SectionNo × ℤ) → Type 0
@@ -91,10 +106,62 @@ module _ (i : Interlocking) where
       let within = ((laid_out i).each r).releases (get_or parts k other).0 in
       omega (arith, at, within)
 
--- ---- releases that are gathered
+  -- the route goes over it
+  pub part_own : (r : RouteNo) (parts : List (SectionNo × ℤ)) (k : ℕ) (other : SectionNo × ℤ) → parts ≡ (route_at i.routes r).sections → k < length parts → goes_over (route_at i.routes r) (get_or parts k other).0 ≡ true
+  part_own r parts k other same less = (subst (λ ps. k < length ps → goes_over (route_at i.routes r) (get_or ps k other).0 ≡ true) (sym same)
+      (λ l. own_goes_over (route_at i.routes r) (get_or (route_at i.routes r).sections k other).0 (in_map (λ (p : SectionNo × ℤ). p.0) (route_at i.routes r).sections (get_or (route_at i.routes r).sections k other) (in_at (route_at i.routes r).sections k other l)))) less
 
-pub same_release : (r : RouteNo) (z : SectionNo) (m n a b : ℕ) → m ≡ n → a ≡ b → ◌≡◌ {A = Release} (record { route = r; section = z; event = record { granted = m; place = a } }) (record { route = r; section = z; event = record { granted = n; place = b } })
-same_release r z m n a b e f = cc
+  -- ---- the sections of the overlap at its end
+
+  pub held_beside : (r : RouteNo) (parts : List OverlapSection) (k : ℕ) (other : OverlapSection) → parts ≡ (route_at i.routes r).overlaps → k < length parts → goes_over (route_at i.routes r) (get_or parts k other).section ≡ false
+  held_beside r parts k other same less = (subst (λ ps. k < length ps → goes_over (route_at i.routes r) (get_or ps k other).section ≡ false) (sym same)
+      (λ l. ((laid_out i).each r).beside (get_or (route_at i.routes r).overlaps k other).section (in_map (λ (p : OverlapSection). p.section) (route_at i.routes r).overlaps (get_or (route_at i.routes r).overlaps k other) (in_at (route_at i.routes r).overlaps k other l)))) less
+
+  -- they are those of the station
+  pub held_within : (r : RouteNo) (z : SectionNo) → In z (held_sections (route_at i.routes r)) → (1 ≤ z.0) × (z.0 ≤ length station.sections)
+  held_within r = subst (λ rs. (z : SectionNo) → In z (held_sections (route_at rs r)) → (1 ≤ z.0) × (z.0 ≤ length station.sections)) (sym i.table)
+      (entry_is (λ (q : Route). (z : SectionNo) → In z (held_sections q) → (1 ≤ z.0) × (z.0 ≤ length station.sections)) no_route (routes_of station) r.0 (λ z m. absurd m) of_route)
+    where
+      at_end : (f : Finish) (z : SectionNo) → In z (end_overlap station f).sections → (1 ≤ z.0) × (z.0 ≤ length station.sections)
+      at_end (finish.Exit n) z m = absurd m
+      at_end (finish.DeadEnd n) z m = absurd m
+      at_end (finish.Signal s) z m = go (find (λ (o : Overlap). o.signal.0 == s.0) station.overlaps) (λ q e. found_in (λ (o : Overlap). o.signal.0 == s.0) station.overlaps q e) m
+        where
+          go : (o : Option Overlap) → ((q : Overlap) → o ≡ Some q → In q station.overlaps) → In z (unwrap_or o no_overlap).sections → (1 ≤ z.0) × (z.0 ≤ length station.sections)
+          go None there k = absurd k
+          go (Some q) there k = (adm.overlap q (there q refl)).there z k
+
+      of_route : (q : Route) → In q (routes_of station) → (z : SectionNo) → In z (held_sections q) → (1 ≤ z.0) × (z.0 ≤ length station.sections)
+      of_route q m z k = at (in_map_back (λ (p : OverlapSection). p.section) q.overlaps z k)
+        where
+          at : ((p : OverlapSection) × In p q.overlaps × (p.section ≡ z)) → (1 ≤ z.0) × (z.0 ≤ length station.sections)
+          at (p, n, same) = subst (λ (y : SectionNo). (1 ≤ y.0) × (y.0 ≤ length station.sections)) same (at_end q.finish p.section ((beside station adm q m).listed p n))
+
+-- ---- releases and holds that are gathered
+
+module _ (d : Station) (routes : List Route) (p : Dispatch) (c : Command) (z : SectionNo) where
+  abbrev event : ℕ → ℕ → Event
+  event m a = record { granted = m; place = a }
+
+  event_is : (m n a b : ℕ) → m ≡ n → a ≡ b → event m a ≡ event n b
+  event_is m n a b e f = cc
+
+  pub same_release : (m a : ℕ) → goes_over (route_at routes c.route) z ≡ true → m ≡ suc (length (routes_before d routes p c)) → a ≡ sum_by length_mm (routes_before d routes p c) + release_offset (route_at routes c.route) z + train_length d c.train
+      → ◌≡◌ {A = Release} (record { route = c.route; section = z; event = record { granted = m; place = a } }) (release_for d routes p c z)
+  same_release m a own many far =
+      ap (λ (e : Event). let r : Release = record { route = c.route; section = z; event = e } in r) (event_is m _ a _ many far ∙ sym (ap (λ (e : TrainEvent). e.event) (release_is_own d routes p c z own)))
+
+  abbrev train_event : Event → ℕ → TrainEvent
+  train_event e n = record { train = c.train; event = e; ticks = n }
+
+  pub same_hold : (m a n spans : ℕ) → goes_over (route_at routes c.route) z ≡ false → m ≡ suc (length (routes_before d routes p c)) → a ≡ sum_by length_mm (routes_before d routes p c) + length_mm (route_at routes c.route) → n ≡ whole_ticks d (hold_ms (route_at routes c.route) z)
+      → spans ≡ length (flat_map (λ (r : Route). r.edges) (routes_before d routes p c)) + length (route_at routes c.route).edges
+      → ◌≡◌ {A = Hold} (record { route = c.route; section = z; event = record { train = c.train; event = record { granted = m; place = a }; ticks = n }; node = spans }) (hold_for d routes p c z)
+  same_hold m a n spans held many far long wide =
+      ap (λ (e : Event). let h : Hold = record { route = c.route; section = z; event = train_event e n; node = spans } in h) (event_is m _ a _ many far)
+      ∙ ap (λ k. let h : Hold = record { route = c.route; section = z; event = train_event (event (suc (length (routes_before d routes p c))) (sum_by length_mm (routes_before d routes p c) + length_mm (route_at routes c.route))) k; node = spans } in h) long
+      ∙ ap (λ (e : TrainEvent). let h : Hold = record { route = c.route; section = z; event = e; node = spans } in h) (sym (release_is_held d routes p c z held))
+      ∙ ap (λ k. let h : Hold = record { route = c.route; section = z; event = release d routes p c z; node = k } in h) wide
 
 -- one more of what is made of each
 pub grown : {X Y : Type 0} (g : Y → X) (old new : List X) (x : X) (ys : List Y) (k : ℕ) (other : Y) (all : List X) → k < length ys → new ≡ old ++ x ∷ [] → x ≡ g (get_or ys k other) → old ++ map g (drop k ys) ≡ all → new ++ map g (drop (k + 1) ys) ≡ all

@@ -1,5 +1,5 @@
 -- Where a train has still to stand on its granted routes is where it has on its whole path, if that is granted.
-use Rattle.std.proofs.Common.{◌≡◌, ℕ, zero, suc, ◌+◌, ◌-◌, ◌≤◌, ◌<◌, ◌^◌, ◌⊎◌, inl, inr, Bool, true, false, cond, if◌then◌else◌, nat_le, nat_lt, List, [], ◌∷◌, ◌++◌, map, length, take, drop, get_or, slice_get, Option, Some, None, option_map, option_and_then, nat_abs, ℤ, sum_by, refl, sym, ap, subst, ◌∙◌, arith, append_assoc, leb-true, leb-false, le-leb}
+use Rattle.std.proofs.Common.{◌≡◌, ℕ, zero, suc, ◌+◌, ◌-◌, ◌≤◌, ◌<◌, ◌^◌, ◌⊎◌, inl, inr, Bool, true, false, cond, if◌then◌else◌, nat_le, nat_lt, List, [], ◌∷◌, ◌++◌, length, take, drop, get_or, slice_get, Option, Some, None, option_map, option_and_then, nat_abs, ℤ, refl, sym, ap, subst, ◌∙◌, arith, append_assoc, leb-true, leb-false, le-leb}
 use Rattle.std.specs.List.{position_from}
 use Rattle.std.specs.Option.{ForSome}
 use Rattle.rail_base.specs.declared.station.Station.{Station}

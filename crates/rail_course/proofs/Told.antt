@@ -6,7 +6,7 @@ use Rattle.rail_base.specs.declared.station.Station.{Station}
 use Rattle.rail_base.specs.declared.station.TrainNo.{TrainNo}
 use Rattle.rail_base.specs.declared.route.Route.{Route}
 use Rattle.rail_base.specs.declared.route.RouteNo.{RouteNo}
-use Rattle.rail_base.specs.declared.state.TrainEvent.{TrainEvent}
+use Rattle.rail_course.specs.declared.waits.Wait.{Wait}
 use Rattle.rail_base.specs.Numbering.{entry}
 use Rattle.rail_base.specs.Stations.{IsTrain}
 use Rattle.rail_spec.specs.Dispatches.{Dispatch}
@@ -40,11 +40,11 @@ rest_left xs i n e = go xs i ∙ ap (λ k. drop k xs) (let f : suc i ≡ n = ome
 -- ---- the waits at a train path's place are those of its train
 
 module _ (d : Station) (routes : List Route) (p : Dispatch) (paths : TrainNo → List RouteNo) (cs : List TrainPath) (are : AreTrainPaths d routes paths cs) where
-  pub told_at : (waits : List (List (Vec TrainEvent))) → AllGiveWhatIsReady d routes p waits → (i : ℕ) → i < length cs → (train_path : TrainPath) → train_path ≡ get_or cs i train_path → (own : List (Vec TrainEvent)) → own ≡ get_or waits i own
-      → GiveWhatIsReady d routes p train_path.train (map (λ (v : Vec TrainEvent). v.items) own)
+  pub told_at : (waits : List (List (Vec Wait))) → AllGiveWhatIsReady d routes p waits → (i : ℕ) → i < length cs → (train_path : TrainPath) → train_path ≡ get_or cs i train_path → (own : List (Vec Wait)) → own ≡ get_or waits i own
+      → GiveWhatIsReady d routes p train_path.train (map (λ (v : Vec Wait). v.items) own)
   told_at waits tell i less train_path here own is =
-      subst (λ u. GiveWhatIsReady d routes p u (map (λ (v : Vec TrainEvent). v.items) own)) (sym number)
-      (subst (λ vs. GiveWhatIsReady d routes p t (map (λ (v : Vec TrainEvent). v.items) vs)) waits_are (tell.each t train))
+      subst (λ u. GiveWhatIsReady d routes p u (map (λ (v : Vec Wait). v.items) own)) (sym number)
+      (subst (λ vs. GiveWhatIsReady d routes p t (map (λ (v : Vec Wait). v.items) vs)) waits_are (tell.each t train))
     where
       t : TrainNo
       t = record { 0 = suc i }

@@ -9,6 +9,7 @@ use Rattle.rail_course.specs.Milestones.{AreMilestones, ComeInTurn}
 use Rattle.rail_course.specs.TrainPaths.{IsTrainPath}
 use Rattle.rail_course.specs.Ready.{GiveWhatIsReady}
 use Rattle.rail_course.specs.Releases.{releases_of_train}
+use Rattle.rail_course.specs.Holds.{holds_of_train}
 use Rattle.rail_base.specs.declared.plan.Command.{Command}
 
 -- the journey is that of its train
@@ -16,6 +17,7 @@ pub record IsJourney (d : Station) (routes : List Route) (p : Dispatch) (j : Jou
   pub train_path : IsTrainPath d routes (p.path j.train_path.train) j.train_path
   pub telling : GiveWhatIsReady d routes p j.train_path.train (map (λ v. v.items) j.waits.items)
   pub releasing : j.releases.items ≡ releases_of_train d routes p j.train_path.train
+  pub holding : j.holds.items ≡ holds_of_train d routes p j.train_path.train
   pub milestones : AreMilestones (map (λ r. r.event.place) j.releases.items) j.release_milestones.items
   pub in_turn : ComeInTurn (λ r. r.event.place) (λ r. r.event.granted) j.releases.items
 

@@ -6,10 +6,12 @@ pub mod Milestones
 pub mod Dwells
 pub mod TrainPaths
 pub mod Stops
+pub mod Releases
+pub mod Holds
 pub mod Waits
 pub mod Granting
 pub mod Ready
-pub mod Releases
+pub mod Clocks
 pub mod Marks
 pub mod Journeys
 pub mod Itineraries

@@ -1,5 +1,6 @@
 -- Routes whose numbers name something and whose offsets are in range.
-use Rattle.std.specs.Prelude.{◌≡◌, ℕ, ◌≤◌, ◌<◌, ◌^◌, List, All, map, flat_map, length, nat_abs, sum_by, ◌++◌, Vec}
+use Rattle.std.specs.Prelude.{◌≡◌, ℕ, ◌≤◌, ◌<◌, ◌^◌, false, List, All, map, flat_map, length, nat_abs, pos, sum_by}
+use Rattle.std.specs.Prelude.{◌++◌, Vec}
 use Rattle.rail_base.specs.declared.station.Station.{Station}
 use Rattle.rail_base.specs.declared.station.EdgeNo.{EdgeNo}
 use Rattle.rail_base.specs.declared.station.SectionNo.{SectionNo}
@@ -8,7 +9,9 @@ use Rattle.rail_base.specs.declared.route.Route.{Route}
 use Rattle.rail_base.specs.declared.route.RouteNo.{RouteNo}
 use Rattle.rail_base.specs.declared.plan.Command.{Command}
 use Rattle.rail_base.specs.Stations.{IsEdge, IsTrain, edge_of, length_of, per_tick_speed, trains}
-use Rattle.rail_base.specs.Routes.{IsRoute, route_at, length_mm, release_offset}
+use Rattle.rail_base.specs.Numbering.{after_first}
+use Rattle.rail_base.specs.Members.{In}
+use Rattle.rail_base.specs.Routes.{IsRoute, route_at, length_mm, release_offset, held_sections, goes_over}
 use Rattle.rail_spec.specs.Track.{routes_of, edge_ends}
 use Rattle.rail_spec.specs.Plans.{path}
 use Rattle.rail_spec.specs.Motion.{SpanSeen}
@@ -24,16 +27,21 @@ pub record HasLimit (d : Station) (e : EdgeNo) : Type 0 where
   pub moves : 1 ≤ per_tick_speed d (edge_of d e).speed_mm_s
   pub slow : per_tick_speed d (edge_of d e).speed_mm_s ≤ 100000
 
--- a route is as long as its edges, and its nodes and release offsets are within it
+-- a route is as long as its edges, its nodes are at their ends, its nodes and release offsets are within it, and it
+-- goes over none of the sections of its overlap, which are few
 pub record IsLaid (d : Station) (r : Route) : Type 0 where
   pub edges : All (HasLimit d) r.edges
   pub whole : sum_by (length_of d) r.edges ≡ length_mm r
   pub nodes : All (λ p. nat_abs p.1 ≤ length_mm r) r.nodes
+  pub ends : map (λ n. n.1) (after_first r.nodes) ≡ map (λ e. pos e.1) (edge_ends d 0 r.edges)
   pub releases : (z : SectionNo) → release_offset r z ≤ length_mm r
+  pub beside : (z : SectionNo) → In z (held_sections r) → goes_over r z ≡ false
+  pub few_held : length r.overlaps ≤ 16
 
--- so is every route of the table
+-- so is every route of the table, and has an edge
 pub record AreLaid (d : Station) (routes : List Route) : Type 0 where
   pub each : (r : RouteNo) → IsLaid d (route_at routes r)
+  pub some_edge : (r : RouteNo) → IsRoute routes r → 1 ≤ length (route_at routes r).edges
 
 -- the command names a train and a route
 abbrev pub IsCommand : Station → List Route → Command → Type 0
@@ -46,6 +54,10 @@ routes_at routes path = map (route_at routes) path
 -- their edges
 abbrev pub edges_of : List Route → List RouteNo → List EdgeNo
 edges_of routes path = flat_map (λ r. r.edges) (routes_at routes path)
+
+-- how many sections are held behind their ends
+abbrev pub held_count : List Route → List RouteNo → ℕ
+held_count routes path = length (flat_map (λ r. r.overlaps) (routes_at routes path))
 
 -- how long they are together
 abbrev pub path_length : List Route → List RouteNo → ℕ

@@ -36,7 +36,7 @@ pub(crate) fn dwells_of(
 }
 
 /// So many ms in ticks, rounded up.
-fn whole_ticks(design: &Design, ms: u32) -> u64
+pub(crate) fn whole_ticks(design: &Design, ms: u32) -> u64
     ensures value { result ≡ whole_ticks design.now.station ms }
     ensures below_2_33 { result < 2 ^ 33 }
 {

@@ -11,11 +11,11 @@ ghost use Rattle.interlocking.specs.Plans.{on};
 use crate::itineraries::Itineraries;
 use crate::journeys::PlannedJourneys;
 use crate::train_paths::TrainPaths;
+use crate::waits::Wait;
 use interlocking::Interlocking;
 use rail_base::list::List;
 use rail_base::plan::Plan;
 use rail_base::route::RouteNo;
-use rail_base::state::TrainEvent;
 use rail_base::station::TrainNo;
 use rail_plan::paths::path_of;
 use std::alloc::{AllocError, Global};
@@ -71,7 +71,7 @@ impl<'a> PlannedTrainPaths<'a> {
     pub fn into_journeys(
         self,
         alloc: Global,
-        waits: Vec<List<Vec<TrainEvent>>>,
+        waits: Vec<List<Vec<Wait>>>,
     ) -> Result<PlannedJourneys<'a>, AllocError>
         requires { AllGiveIn self.train_paths.given
             (of_plan self.train_paths.given.interlocking.now.routes self.plan.now.steps) waits.items }

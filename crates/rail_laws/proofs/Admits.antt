@@ -18,7 +18,7 @@ use Rattle.rail_base.specs.Numbering.{entry, one_to, before_first}
 use Rattle.rail_base.specs.Members.{In, Pairs, Differ, all_pairs, all_neighbors}
 use Rattle.rail_spec.specs.Track.{edge_ends, routes_of}
 use Rattle.rail_base.specs.Stations.{length_of, section_of, trains, train_of, first_visit, IsTrain}
-use Rattle.rail_spec.specs.Plans.{is_well_formed, is_executable, no_route, route_at, has_section, release_offset, length_mm, exits, is_route, is_start, goes_on, end_at_one_signal, begins_in, is_path, one_each, commands, path, path_routes}
+use Rattle.rail_spec.specs.Plans.{is_well_formed, is_executable, no_route, route_at, goes_over, release_offset, length_mm, exits, is_route, is_start, goes_on, end_at_one_signal, begins_in, is_path, one_each, commands, path, path_routes}
 use Rattle.rail_laws.specs.Elementary.{IsAsItsEdges}
 use Rattle.rail_laws.specs.Standing.{NodesRise}
 use Rattle.rail_base.specs.Admitted.{IsAdmitted}
@@ -96,7 +96,7 @@ module _ (d : Station) (adm : IsAdmitted d) where
   -- what a route of the table is like, or the empty one that stands for none
   pub record IsGood (r : Route) : Type 0 where
     pub whole : sum_by (length_of d) r.edges ≡ length_mm r
-    pub section : (e : EdgeNo × ℕ) → In e (edge_ends d 0 r.edges) → has_section r (section_of d e.0) ≡ true
+    pub section : (e : EdgeNo × ℕ) → In e (edge_ends d 0 r.edges) → goes_over r (section_of d e.0) ≡ true
     pub released_after : (e : EdgeNo × ℕ) → In e (edge_ends d 0 r.edges) → e.1 ≤ release_offset r (section_of d e.0)
     pub released_in : (z : SectionNo) → release_offset r z ≤ length_mm r
     pub nodes_in : (p : NodeNo × ℤ) → In p r.nodes → nat_abs p.1 ≤ length_mm r

@@ -15,8 +15,8 @@ use Rattle.rail_base.specs.Stations.{IsTrain, train_of, dwell_ticks}
 use Rattle.rail_spec.specs.Plans.{route_at, length_mm, exits}
 use Rattle.rail_spec.specs.Places.{path_nodes, visits_on, next_stop}
 use Rattle.rail_spec.specs.Motion.{MotorSeen, SpanSeen, permitted, next_speed, may_stop, reach}
-use Rattle.rail_spec.specs.Dispatches.{idle, state_of, rates, stretches, is_at, Dispatch, is_ready, track_end, with_granted, stop, stop_place, authority, stands}
-use Rattle.rail_spec.specs.Dispatches.{speed_in, granted_with, granted_after, moved, state_at}
+use Rattle.rail_spec.specs.Dispatches.{idle, state_of, now, rates, stretches, is_at, Dispatch, is_ready, track_end, with_granted, stop, stop_place, authority, stands}
+use Rattle.rail_spec.specs.Dispatches.{speed_in, granted_with, granted_after, moved, pasts_at}
 use Rattle.rail_spec.specs.Visits.{visits_of_train}
 use Rattle.rail_laws.specs.Standing.{IsAsFar, NodesRise, IsOrderly, given, seen, after, StandsAtItsPlace, WaitsAtItsPlace, StandsAtVisit, StandsNoLonger, AuthorityGrows}
 use Rattle.rail_base.proofs.Members.{and_both}
@@ -87,16 +87,16 @@ module _ (d : Station) (routes : List Route) (p : Dispatch) where
     pub waits : s.granted ≡ 0 → (s.x ≡ 0) × (s.v ≡ 0)
     pub braking : 1 ≤ s.granted → permitted (rates d t) (stretches d (given d routes p t s.granted)) (authority d routes p t s) s.x s.v (s.v - (rates d t).brake) ≡ true
 
-  pub next_grants : (s : List TrainState) (t : TrainNo) → (granted_after d routes p s t ≡ (state_of s t).granted) ⊎ (granted_after d routes p s t ≡ (state_of s t).granted + 1)
-  next_grants s t = go (slice_get (p.path t) (state_of s t).granted)
+  pub next_grants : (ps : List (List TrainState)) (t : TrainNo) → (granted_after d routes p ps t ≡ (state_of (now ps) t).granted) ⊎ (granted_after d routes p ps t ≡ (state_of (now ps) t).granted + 1)
+  next_grants ps t = go (slice_get (p.path t) (state_of (now ps) t).granted)
     where
       step : (b : Bool) (g : ℕ) → ((if b then g + 1 else g) ≡ g) ⊎ ((if b then g + 1 else g) ≡ g + 1)
       step true g = inr refl
       step false g = inl refl
 
-      go : (o : Option RouteNo) → (granted_with d routes p s t o ≡ (state_of s t).granted) ⊎ (granted_with d routes p s t o ≡ (state_of s t).granted + 1)
+      go : (o : Option RouteNo) → (granted_with d routes p ps t o ≡ (state_of (now ps) t).granted) ⊎ (granted_with d routes p ps t o ≡ (state_of (now ps) t).granted + 1)
       go None = inl refl
-      go (Some r) = step (is_ready d routes p s (record { train = t; route = r })) (state_of s t).granted
+      go (Some r) = step (is_ready d routes p ps (record { train = t; route = r })) (state_of (now ps) t).granted
 
   -- ---- ticks stood
 
@@ -128,11 +128,11 @@ module _ (d : Station) (routes : List Route) (p : Dispatch) where
 
   -- what holds of a train after a tick, from what the rule gives
   pub by_each_tick : (P : TrainState → TrainState → Type 0) (k : ℕ) (t : TrainNo) → P idle idle → P (after d routes p k t) (after d routes p k t)
-      → (IsTrain d t → P (after d routes p k t) (moved d routes p t (after d routes p k t) (granted_after d routes p (state_at d routes p k) t)))
+      → (IsTrain d t → P (after d routes p k t) (moved d routes p t (after d routes p k t) (granted_after d routes p (pasts_at d routes p k) t)))
       → P (after d routes p k t) (after d routes p (suc k) t)
   by_each_tick P k t none same moves = go (after_tick d routes p k t)
     where
-      step : IsTrain d t → (b : Bool) → P (after d routes p k t) (if b then moved d routes p t (after d routes p k t) (granted_after d routes p (state_at d routes p k) t) else after d routes p k t)
+      step : IsTrain d t → (b : Bool) → P (after d routes p k t) (if b then moved d routes p t (after d routes p k t) (granted_after d routes p (pasts_at d routes p k) t) else after d routes p k t)
       step named true = moves named
       step named false = same
 
@@ -141,7 +141,7 @@ module _ (d : Station) (routes : List Route) (p : Dispatch) where
       go (inr i) = subst (λ o. P o (after d routes p (suc k) t)) (sym i.old) (subst (P idle) (sym i.new) none)
 
   pub stood_later : (k : ℕ) (t : TrainNo) → (after d routes p k t).stood ≤ (after d routes p (suc k) t).stood
-  stood_later k t = by_each_tick (λ old new. old.stood ≤ new.stood) k t (omega arith) (omega arith) (λ named. moved_stood t (after d routes p k t) (granted_after d routes p (state_at d routes p k) t))
+  stood_later k t = by_each_tick (λ old new. old.stood ≤ new.stood) k t (omega arith) (omega arith) (λ named. moved_stood t (after d routes p k t) (granted_after d routes p (pasts_at d routes p k) t))
 
   pub stood_up_to : (m k : ℕ) (t : TrainNo) → (after d routes p k t).stood ≤ (after d routes p (k + m) t).stood
   stood_up_to zero k t = let z : k + 0 ≡ k = omega arith in subst (λ n. (after d routes p k t).stood ≤ (after d routes p n t).stood) (sym z) (let same : (after d routes p k t).stood ≤ (after d routes p k t).stood = omega arith in same)
@@ -154,11 +154,11 @@ module _ (d : Station) (routes : List Route) (p : Dispatch) where
 
   pub stood_within : (k : ℕ) (t : TrainNo) → (after d routes p k t).stood ≤ sum (dwell_ticks d t)
   stood_within zero t = let z : (after d routes p zero t).stood ≡ 0 = ap (λ (s : TrainState). s.stood) (idle_at_first d routes p t) in omega arith
-  stood_within (suc k) t = by_each_tick (λ old new. old.stood ≤ sum (dwell_ticks d t) → new.stood ≤ sum (dwell_ticks d t)) k t (λ h. h) (λ h. h) (λ named h. moved_stood_most t (after d routes p k t) (granted_after d routes p (state_at d routes p k) t) h) (stood_within k t)
+  stood_within (suc k) t = by_each_tick (λ old new. old.stood ≤ sum (dwell_ticks d t) → new.stood ≤ sum (dwell_ticks d t)) k t (λ h. h) (λ h. h) (λ named h. moved_stood_most t (after d routes p k t) (granted_after d routes p (pasts_at d routes p k) t) h) (stood_within k t)
 
   pub stood_ticks : (k : ℕ) (t : TrainNo) → (after d routes p k t).stood ≤ k
   stood_ticks zero t = let z : (after d routes p zero t).stood ≡ 0 = ap (λ (s : TrainState). s.stood) (idle_at_first d routes p t) in omega arith
-  stood_ticks (suc k) t = by_each_tick (λ old new. old.stood ≤ k → new.stood ≤ suc k) k t (λ h. omega arith) (λ h. omega arith) (λ named h. moves (after d routes p k t) (granted_after d routes p (state_at d routes p k) t) h) (stood_ticks k t)
+  stood_ticks (suc k) t = by_each_tick (λ old new. old.stood ≤ k → new.stood ≤ suc k) k t (λ h. omega arith) (λ h. omega arith) (λ named h. moves (after d routes p k t) (granted_after d routes p (pasts_at d routes p k) t) h) (stood_ticks k t)
     where
       step : (b : Bool) (n : ℕ) → n ≤ k → (if b then n + 1 else n) ≤ suc k
       step true n h = omega arith
@@ -210,13 +210,13 @@ module _ (d : Station) (routes : List Route) (p : Dispatch) where
 
       go : Moves d routes p k t ⊎ Idles d routes p k t → StandsAtItsPlace d routes p k t
       go (inr i) = let o = i.out named.0 in let l = named.1 in absurd (omega arith)
-      go (inl m) = told (subst (Rests t (after d routes p k t)) (sym (m.by_rule ∙ ap (λ b. if b then moved d routes p t (after d routes p k t) (granted_after d routes p (state_at d routes p k) t) else after d routes p k t) concerned))
-          (rests (after d routes p k t) (granted_after d routes p (state_at d routes p k) t) (granted_after_more d routes p (state_at d routes p k) t)))
+      go (inl m) = told (subst (Rests t (after d routes p k t)) (sym (m.by_rule ∙ ap (λ b. if b then moved d routes p t (after d routes p k t) (granted_after d routes p (pasts_at d routes p k) t) else after d routes p k t) concerned))
+          (rests (after d routes p k t) (granted_after d routes p (pasts_at d routes p k) t) (granted_after_more d routes p (pasts_at d routes p k) t)))
 
   -- who has stood longer after a tick has stood at its place
   stood_there : (k : ℕ) (t : TrainNo) → (after d routes p k t).stood < (after d routes p (suc k) t).stood → (stop_place d routes p t (seen d routes p k t) ≡ Some (after d routes p k t).x) × ((after d routes p (suc k) t).x ≡ (after d routes p k t).x)
   stood_there k t = by_each_tick (λ old new. old.stood < new.stood → (stop_place d routes p t (with_granted new.granted old) ≡ Some old.x) × (new.x ≡ old.x)) k t (λ l. absurd (omega arith)) (λ l. absurd (omega arith))
-      (λ named. moves (after d routes p k t) (granted_after d routes p (state_at d routes p k) t))
+      (λ named. moves (after d routes p k t) (granted_after d routes p (pasts_at d routes p k) t))
     where
       moves : (old : TrainState) (n : ℕ) → old.stood < (moved d routes p t old n).stood → (stop_place d routes p t (with_granted (moved d routes p t old n).granted old) ≡ Some old.x) × ((moved d routes p t old n).x ≡ old.x)
       moves old zero l = absurd (omega arith)
@@ -399,7 +399,7 @@ module _ (d : Station) (routes : List Route) (p : Dispatch) where
     travels zero t = subst (Travels t) (sym (idle_at_first d routes p t)) (record { waits = λ z. (refl, refl); braking = λ l. absurd (omega arith) })
     travels (suc k) t =
         by_each_tick (λ old new. Travels t old → Travels t new) k t (λ h. h) (λ h. h)
-        (λ named h. travels_on t named (after d routes p k t) (granted_after d routes p (state_at d routes p k) t) (brakes_of t named) h (next_grants (state_at d routes p k) t))
+        (λ named h. travels_on t named (after d routes p k t) (granted_after d routes p (pasts_at d routes p k) t) (brakes_of t named) h (next_grants (pasts_at d routes p k) t))
         (travels k t)
 
     -- the head never passes the end of authority
@@ -496,7 +496,7 @@ module _ (d : Station) (routes : List Route) (p : Dispatch) where
     pub authority_grows : (k : ℕ) (t : TrainNo) → AuthorityGrows d routes p k t
     authority_grows k t =
         by_each_tick (λ old new. IsAsFar (authority d routes p t old) (authority d routes p t new)) k t (as_far_same (authority d routes p t idle)) (as_far_same (authority d routes p t (after d routes p k t)))
-        (λ named. moves named (after d routes p k t) (granted_after d routes p (state_at d routes p k) t) (next_grants (state_at d routes p k) t))
+        (λ named. moves named (after d routes p k t) (granted_after d routes p (pasts_at d routes p k) t) (next_grants (pasts_at d routes p k) t))
       where
         grants : IsTrain d t → (old : TrainState) (n : ℕ) → (n ≡ old.granted) ⊎ (n ≡ old.granted + 1) → IsAsFar (end_on t (given d routes p t old.granted) old.stood) (end_on t (given d routes p t n) old.stood)
         grants named old n (inl e) = subst (λ g. IsAsFar (end_on t (given d routes p t old.granted) old.stood) (end_on t (given d routes p t g) old.stood)) (sym e) (as_far_same (end_on t (given d routes p t old.granted) old.stood))

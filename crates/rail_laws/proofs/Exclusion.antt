@@ -1,168 +1,37 @@
 -- In no run of an executable plan do two trains hold one section.
-use Rattle.std.proofs.Common.{◌≡◌, ℕ, zero, suc, ◌+◌, ◌≤◌, ◌<◌, ◌⊎◌, inl, inr, Bool, true, false, cond, not, ◌&&◌, ◌||◌, if◌then◌else◌, ◌==◌, nat_le, nat_lt, List, [], ◌∷◌, map, length, slice_get, Option, None, Some, refl, sym, ap, subst, ◌∙◌, arith, leb-true, le-leb, get_or, eqb-true, eq-eqb, ℤ, true≢false}
+use Rattle.std.proofs.Common.{◌≡◌, ℕ, suc, ◌≤◌, ◌⊎◌, inl, inr, Bool, true, false, not, ◌&&◌, ◌||◌, ◌==◌, nat_lt, List, map, length, refl, sym, ap, subst, ◌∙◌, eqb-true, eq-eqb, ℤ, true≢false}
 use Rattle.rail_base.specs.declared.station.Station.{Station}
 use Rattle.rail_base.specs.declared.station.SectionNo.{SectionNo}
 use Rattle.rail_base.specs.declared.station.TrainNo.{TrainNo}
 use Rattle.rail_base.specs.declared.route.Route.{Route}
-use Rattle.rail_base.specs.declared.route.RouteNo.{RouteNo}
+use Rattle.rail_base.specs.declared.route.OverlapSection.{OverlapSection}
 use Rattle.rail_base.specs.declared.plan.Command.{Command}
-use Rattle.rail_base.specs.Numbering.{entry, one_to, before_first}
-use Rattle.rail_spec.specs.Plans.{route_at, path, commands, preceding, precedes, shared, share, sections, is_route, is_train, step_of, is_executable, may_stand, has_section}
+use Rattle.rail_spec.specs.Plans.{route_at, commands, precedes, shared, share, sections, own_sections, is_train, step_of, is_executable, may_stand, has_section, goes_over}
+use Rattle.rail_base.specs.Routes.{overlaps}
 use Rattle.rail_base.specs.declared.state.TrainState.{TrainState}
-use Rattle.rail_spec.specs.Dispatches.{idle, state_of, of_plan, routes_before, is_granted, has_released, is_ready}
-use Rattle.rail_spec.specs.Dispatches.{granted_with, granted_after, moved, tick, state_at}
+use Rattle.rail_spec.specs.Dispatches.{idle, state_of, of_plan, is_granted, has_released}
+use Rattle.rail_spec.specs.Dispatches.{granted_after, moved, pasts_at, state_at}
 use Rattle.rail_spec.specs.Safety.{holds}
-use Rattle.rail_base.proofs.Members.{In, and_left, and_right, and_both, list_all_at, list_any_gives, list_any_from, in_filter, get_or-counted, get_or-counted_past, map-map, below_or_not}
+use Rattle.rail_base.proofs.Members.{In, and_left, and_right, and_both, list_all_at, list_any_gives, list_any_from, in_filter}
+use Rattle.rail_base.proofs.Lists.{in_map, in_append_left, in_append_right}
+use Rattle.rail_laws.proofs.Running.{Later, Moves, Idles, after_tick, granted_cleared}
+use Rattle.rail_laws.proofs.Running as run
 
 module _ (d : Station) (routes : List Route) (plan : List (List Command)) where
-  -- ---- the state of one train after a tick
+  -- ---- the run of a plan is that of its dispatch
 
-  pub record Later (old new : TrainState) : Type 0 where
-    pub granted : old.granted ≤ new.granted
-    pub x : old.x ≤ new.x
-
-  granted_with_more : (s : List TrainState) (t : TrainNo) (r : Option RouteNo) → (state_of s t).granted ≤ granted_with d routes (of_plan routes plan) s t r
-  granted_with_more s t None = omega arith
-  granted_with_more s t (Some r) = go (is_ready d routes (of_plan routes plan) s (record { train = t; route = r })) (state_of s t).granted
-    where
-      go : (b : Bool) (g : ℕ) → g ≤ (if b then g + 1 else g)
-      go true g = omega arith
-      go false g = omega arith
-
-  moved_later : (t : TrainNo) (old : TrainState) (n : ℕ) → old.granted ≤ n → Later old (moved d routes (of_plan routes plan) t old n)
-  moved_later t old zero h = record { granted = omega arith; x = omega arith }
-  moved_later t old (suc n) h = record { granted = h; x = omega arith }
-
-  -- the state of a train of the design moves on by the rule, and any other stays idle
-  pub state_of-tick : (s : List TrainState) (i : ℕ) → i < length d.trains → entry idle (tick d routes (of_plan routes plan) 0 s) (suc i) ≡ moved d routes (of_plan routes plan) (record { 0 = suc i }) (entry idle s (suc i)) (granted_after d routes (of_plan routes plan) s (record { 0 = suc i }))
-  state_of-tick s i h =
-      let f : TrainNo → TrainState = λ t. moved d routes (of_plan routes plan) t (state_of s t) (granted_after d routes (of_plan routes plan) s t) in
-      let number : ℕ → TrainNo = λ n. record { 0 = n } in
-      ap (λ xs. get_or xs i idle) (map-map f number (one_to (length d.trains))) ∙ get_or-counted (λ n. f (number n)) 1 (length d.trains) i idle h ∙ ap (λ n. f (number n)) (omega arith)
-
-  state_of-tick_past : (s : List TrainState) (i : ℕ) → length d.trains ≤ i → entry idle (tick d routes (of_plan routes plan) 0 s) (suc i) ≡ idle
-  state_of-tick_past s i h =
-      let f : TrainNo → TrainState = λ t. moved d routes (of_plan routes plan) t (state_of s t) (granted_after d routes (of_plan routes plan) s t) in
-      let number : ℕ → TrainNo = λ n. record { 0 = n } in
-      ap (λ xs. get_or xs i idle) (map-map f number (one_to (length d.trains))) ∙ get_or-counted_past (λ n. f (number n)) 1 (length d.trains) i idle h
-
-  pub past_is_idle : (k i : ℕ) → length d.trains ≤ i → entry idle (state_at d routes (of_plan routes plan) k) (suc i) ≡ idle
-  past_is_idle zero i h =
-      let f : TrainNo → TrainState = λ t. idle in
-      let number : ℕ → TrainNo = λ n. record { 0 = n } in
-      ap (λ xs. get_or xs i idle) (map-map f number (one_to (length d.trains))) ∙ get_or-counted_past (λ n. f (number n)) 1 (length d.trains) i idle h
-  past_is_idle (suc k) i h = state_of-tick_past (state_at d routes (of_plan routes plan) k) i h
+  pub run_later : (k : ℕ) (t : TrainNo) → Later d routes (of_plan routes plan) (state_of (state_at d routes (of_plan routes plan) k) t) (state_of (state_at d routes (of_plan routes plan) (suc k)) t)
+  run_later k t = run.run_later d routes (of_plan routes plan) k t
 
   -- what holds of a train after a tick, from what the rule gives
   pub by_tick : (P : TrainState → TrainState → Type 0) (k : ℕ) (t : TrainNo) → P idle idle
-      → (1 ≤ t.0 → t.0 ≤ length d.trains → P (state_of (state_at d routes (of_plan routes plan) k) t) (moved d routes (of_plan routes plan) t (state_of (state_at d routes (of_plan routes plan) k) t) (granted_after d routes (of_plan routes plan) (state_at d routes (of_plan routes plan) k) t)))
+      → (1 ≤ t.0 → t.0 ≤ length d.trains → P (state_of (state_at d routes (of_plan routes plan) k) t) (moved d routes (of_plan routes plan) t (state_of (state_at d routes (of_plan routes plan) k) t) (granted_after d routes (of_plan routes plan) (pasts_at d routes (of_plan routes plan) k) t)))
       → P (state_of (state_at d routes (of_plan routes plan) k) t) (state_of (state_at d routes (of_plan routes plan) (suc k)) t)
-  by_tick P k t none moves = go t.0 moves
+  by_tick P k t none moves = go (after_tick d routes (of_plan routes plan) k t)
     where
-      go : (n : ℕ) → (1 ≤ n → n ≤ length d.trains → P (entry idle (state_at d routes (of_plan routes plan) k) n) (moved d routes (of_plan routes plan) (record { 0 = n }) (entry idle (state_at d routes (of_plan routes plan) k) n) (granted_after d routes (of_plan routes plan) (state_at d routes (of_plan routes plan) k) (record { 0 = n })))) → P (entry idle (state_at d routes (of_plan routes plan) k) n) (entry idle (state_at d routes (of_plan routes plan) (suc k)) n)
-      go zero m = none
-      go (suc i) m = cases (below_or_not i (length d.trains))
-        where
-          cases : (i < length d.trains) ⊎ (length d.trains ≤ i) → P (entry idle (state_at d routes (of_plan routes plan) k) (suc i)) (entry idle (state_at d routes (of_plan routes plan) (suc k)) (suc i))
-          cases (inl h) = subst (λ new. P (entry idle (state_at d routes (of_plan routes plan) k) (suc i)) new) (sym (state_of-tick (state_at d routes (of_plan routes plan) k) i h)) (m (omega arith) h)
-          cases (inr h) = subst (λ old. P old (entry idle (state_at d routes (of_plan routes plan) (suc k)) (suc i))) (sym (past_is_idle k i h)) (subst (λ new. P idle new) (sym (past_is_idle (suc k) i h)) none)
-
-  -- ---- what is released stays so
-
-  pub granted_after_more : (s : List TrainState) (t : TrainNo) → (state_of s t).granted ≤ granted_after d routes (of_plan routes plan) s t
-  granted_after_more s t = granted_with_more s t (slice_get (path plan t) (state_of s t).granted)
-
-  pub run_later : (k : ℕ) (t : TrainNo) → Later (state_of (state_at d routes (of_plan routes plan) k) t) (state_of (state_at d routes (of_plan routes plan) (suc k)) t)
-  run_later k t = by_tick Later k t (record { granted = omega arith; x = omega arith })
-      (λ low high. moved_later t (state_of (state_at d routes (of_plan routes plan) k) t) _ (granted_after_more (state_at d routes (of_plan routes plan) k) t))
-
-  test_more : (a b c : ℕ) → b ≤ c → nat_le a b ≡ true → nat_le a c ≡ true
-  test_more a b c h t = let k = leb-true a b t in le-leb a c (omega arith)
-
-  pub is_granted_later : (k : ℕ) (c : Command) → is_granted d routes (of_plan routes plan) (state_at d routes (of_plan routes plan) k) c ≡ true → is_granted d routes (of_plan routes plan) (state_at d routes (of_plan routes plan) (suc k)) c ≡ true
-  is_granted_later k c h = test_more _ (state_of (state_at d routes (of_plan routes plan) k) c.train).granted _ (run_later k c.train).granted h
-
-  pub released_later : (k : ℕ) (c : Command) (z : SectionNo) → has_released d routes (of_plan routes plan) (state_at d routes (of_plan routes plan) k) c z ≡ true → has_released d routes (of_plan routes plan) (state_at d routes (of_plan routes plan) (suc k)) c z ≡ true
-  released_later k c z h =
-      and_both _ _ (is_granted_later k c (and_left (is_granted d routes (of_plan routes plan) (state_at d routes (of_plan routes plan) k) c) _ h))
-      (test_more _ (state_of (state_at d routes (of_plan routes plan) k) c.train).x _ (run_later k c.train).x (and_right (is_granted d routes (of_plan routes plan) (state_at d routes (of_plan routes plan) k) c) _ h))
-
-  -- ---- a granted command has everything released before it
-
-  pub record Cleared (k : ℕ) (c : Command) : Type 0 where
-    pub each : (e : Command) (z : SectionNo) → In e (preceding routes plan c) → In z (shared (route_at routes e.route) (route_at routes c.route)) → has_released d routes (of_plan routes plan) (state_at d routes (of_plan routes plan) k) e z ≡ true
-
-  ready_cleared : (k : ℕ) (c : Command) → is_ready d routes (of_plan routes plan) (state_at d routes (of_plan routes plan) k) c ≡ true → Cleared k c
-  ready_cleared k c h = record { each = λ e z m n. list_all_at (has_released d routes (of_plan routes plan) (state_at d routes (of_plan routes plan) k) e) _ z (list_all_at _ (preceding routes plan c) e h m) n }
-
-  cleared_later : (k : ℕ) (c : Command) → Cleared k c → Cleared (suc k) c
-  cleared_later k c h = record { each = λ e z m n. released_later k e z (h.each e z m n) }
-
-  -- ---- which command a grant is for
-
-  first_is : (q : RouteNo) (xs : List RouteNo) (r : RouteNo) → slice_get xs (length (before_first (λ x. is_route x q) xs)) ≡ Some r → is_route r q ≡ true
-  first_is q [] r h = cc
-  first_is q (x ∷ xs) r h = go (is_route x q) refl h (first_is q xs r)
-    where
-      go : (b : Bool) → is_route x q ≡ b → slice_get (x ∷ xs) (length (cond b [] (x ∷ before_first (λ y. is_route y q) xs))) ≡ Some r
-          → (slice_get xs (length (before_first (λ y. is_route y q) xs)) ≡ Some r → is_route r q ≡ true) → is_route r q ≡ true
-      go true e k later = let same : x ≡ r = cc in subst (λ y. is_route y q ≡ true) same e
-      go false e k later = later k
-
-  length-map : {X Y : Type 0} (f : X → Y) (xs : List X) → length (map f xs) ≡ length xs
-  length-map f [] = refl
-  length-map f (x ∷ xs) = ap suc (length-map f xs)
-
-  is_route_same : (r q : RouteNo) → is_route r q ≡ true → r ≡ q
-  is_route_same r q h = let same : r.0 ≡ q.0 = eqb-true r.0 q.0 h in ap (λ n. record { 0 = n }) same
-
-  -- the command of the train that is granted as its last but g others is ready, or was granted before
-  newly : (k : ℕ) (c : Command) (o : Option RouteNo) → slice_get (path plan c.train) (state_of (state_at d routes (of_plan routes plan) k) c.train).granted ≡ o
-      → length (routes_before d routes (of_plan routes plan) c) < granted_with d routes (of_plan routes plan) (state_at d routes (of_plan routes plan) k) c.train o
-      → (is_granted d routes (of_plan routes plan) (state_at d routes (of_plan routes plan) k) c ≡ true) ⊎ Cleared k c
-  newly k c None e h = inl (le-leb _ _ h)
-  newly k c (Some r) e h = ready (is_ready d routes (of_plan routes plan) (state_at d routes (of_plan routes plan) k) (record { train = c.train; route = r })) refl h
-    where
-      ready : (b : Bool) → is_ready d routes (of_plan routes plan) (state_at d routes (of_plan routes plan) k) (record { train = c.train; route = r }) ≡ b → length (routes_before d routes (of_plan routes plan) c) < (if b then (state_of (state_at d routes (of_plan routes plan) k) c.train).granted + 1 else (state_of (state_at d routes (of_plan routes plan) k) c.train).granted)
-          → (is_granted d routes (of_plan routes plan) (state_at d routes (of_plan routes plan) k) c ≡ true) ⊎ Cleared k c
-      ready false n l = inl (le-leb _ _ l)
-      ready true n l = at (below_or_not (length (routes_before d routes (of_plan routes plan) c)) (state_of (state_at d routes (of_plan routes plan) k) c.train).granted)
-        where
-          at : (length (routes_before d routes (of_plan routes plan) c) < (state_of (state_at d routes (of_plan routes plan) k) c.train).granted) ⊎ ((state_of (state_at d routes (of_plan routes plan) k) c.train).granted ≤ length (routes_before d routes (of_plan routes plan) c)) → (is_granted d routes (of_plan routes plan) (state_at d routes (of_plan routes plan) k) c ≡ true) ⊎ Cleared k c
-          at (inl m) = inl (le-leb _ _ m)
-          at (inr m) =
-              let place : length (before_first (λ x. is_route x c.route) (path plan c.train)) ≡ (state_of (state_at d routes (of_plan routes plan) k) c.train).granted = omega (arith, length-map (route_at routes) (before_first (λ x. is_route x c.route) (path plan c.train))) in
-              let same : r ≡ c.route = is_route_same r c.route (first_is c.route (path plan c.train) r (ap (slice_get (path plan c.train)) place ∙ e)) in
-              inr (ready_cleared k c (subst (λ q. is_ready d routes (of_plan routes plan) (state_at d routes (of_plan routes plan) k) (record { train = c.train; route = q }) ≡ true) same n))
-
-  granted_at_most : (k : ℕ) (t : TrainNo) → (state_of (state_at d routes (of_plan routes plan) (suc k)) t).granted ≤ granted_after d routes (of_plan routes plan) (state_at d routes (of_plan routes plan) k) t
-  granted_at_most k t = by_tick (λ old new. new.granted ≤ granted_after d routes (of_plan routes plan) (state_at d routes (of_plan routes plan) k) t) k t (omega arith)
-      (λ low high. moved_at_most (state_of (state_at d routes (of_plan routes plan) k) t) (granted_after d routes (of_plan routes plan) (state_at d routes (of_plan routes plan) k) t) (granted_after_more (state_at d routes (of_plan routes plan) k) t))
-    where
-      moved_at_most : (old : TrainState) (n : ℕ) → old.granted ≤ n → (moved d routes (of_plan routes plan) t old n).granted ≤ n
-      moved_at_most old zero h = h
-      moved_at_most old (suc n) h = omega arith
-
-  pub idle_at_first : (t : TrainNo) → state_of (state_at d routes (of_plan routes plan) zero) t ≡ idle
-  idle_at_first t = go t.0
-    where
-      go : (n : ℕ) → entry idle (state_at d routes (of_plan routes plan) zero) n ≡ idle
-      go zero = refl
-      go (suc i) = cases (below_or_not i (length d.trains))
-        where
-          cases : (i < length d.trains) ⊎ (length d.trains ≤ i) → entry idle (state_at d routes (of_plan routes plan) zero) (suc i) ≡ idle
-          cases (inr h) = past_is_idle zero i h
-          cases (inl h) = let number : ℕ → TrainNo = λ n. record { 0 = n } in let rest : TrainNo → TrainState = λ u. idle in
-              ap (λ xs. get_or xs i idle) (map-map rest number (one_to (length d.trains))) ∙ get_or-counted (λ n. idle) 1 (length d.trains) i idle h
-
-  -- whatever is granted has everything released that the commands before it share with it
-  pub granted_cleared : (k : ℕ) (c : Command) → is_granted d routes (of_plan routes plan) (state_at d routes (of_plan routes plan) k) c ≡ true → Cleared k c
-  granted_cleared zero c h = let none : (state_of (state_at d routes (of_plan routes plan) zero) c.train).granted ≡ 0 = ap (λ (s : TrainState). s.granted) (idle_at_first c.train) in let more = leb-true _ _ h in absurd (omega arith)
-  granted_cleared (suc k) c h = go (granted_cleared k c) (newly k c _ refl (let most = granted_at_most k c.train in let more = leb-true _ _ h in omega arith))
-    where
-      go : (is_granted d routes (of_plan routes plan) (state_at d routes (of_plan routes plan) k) c ≡ true → Cleared k c) → (is_granted d routes (of_plan routes plan) (state_at d routes (of_plan routes plan) k) c ≡ true) ⊎ Cleared k c → Cleared (suc k) c
-      go before (inl was) = cleared_later k c (before was)
-      go before (inr now) = cleared_later k c now
+      go : Moves d routes (of_plan routes plan) k t ⊎ Idles d routes (of_plan routes plan) k t → P (state_of (state_at d routes (of_plan routes plan) k) t) (state_of (state_at d routes (of_plan routes plan) (suc k)) t)
+      go (inl m) = subst (P (state_of (state_at d routes (of_plan routes plan) k) t)) (sym m.by_rule) (moves m.first m.last)
+      go (inr i) = subst (λ old. P old (state_of (state_at d routes (of_plan routes plan) (suc k)) t)) (sym i.old) (subst (P idle) (sym i.new) none)
 
   -- ---- two holders
 
@@ -173,7 +42,7 @@ module _ (d : Station) (routes : List Route) (plan : List (List Command)) where
     pub train : is_train command.train t ≡ true
     pub section : has_section (route_at routes command.route) z ≡ true
     pub granted : is_granted d routes (of_plan routes plan) (state_at d routes (of_plan routes plan) k) command ≡ true
-    pub unreleased : has_released d routes (of_plan routes plan) (state_at d routes (of_plan routes plan) k) command z ≡ false
+    pub unreleased : has_released d routes (of_plan routes plan) (pasts_at d routes (of_plan routes plan) k) command z ≡ false
 
   not_true : (b : Bool) → not b ≡ true → b ≡ false
   not_true true h = sym h
@@ -182,7 +51,7 @@ module _ (d : Station) (routes : List Route) (plan : List (List Command)) where
   holder : (k : ℕ) (t : TrainNo) (z : SectionNo) → holds d routes plan k t z ≡ true → Holder k t z
   holder k t z h = go (list_any_gives _ (commands plan) h)
     where
-      go : (c : Command) × In c (commands plan) × ((is_train c.train t && has_section (route_at routes c.route) z && is_granted d routes (of_plan routes plan) (state_at d routes (of_plan routes plan) k) c && not (has_released d routes (of_plan routes plan) (state_at d routes (of_plan routes plan) k) c z)) ≡ true) → Holder k t z
+      go : (c : Command) × In c (commands plan) × ((is_train c.train t && has_section (route_at routes c.route) z && is_granted d routes (of_plan routes plan) (state_at d routes (of_plan routes plan) k) c && not (has_released d routes (of_plan routes plan) (pasts_at d routes (of_plan routes plan) k) c z)) ≡ true) → Holder k t z
       go (c, m, p) =
           let abc = and_left (is_train c.train t && has_section (route_at routes c.route) z && is_granted d routes (of_plan routes plan) (state_at d routes (of_plan routes plan) k) c) _ p in
           let ab = and_left (is_train c.train t && has_section (route_at routes c.route) z) _ abc in
@@ -195,31 +64,30 @@ module _ (d : Station) (routes : List Route) (plan : List (List Command)) where
             unreleased = not_true _ (and_right (is_train c.train t && has_section (route_at routes c.route) z && is_granted d routes (of_plan routes plan) (state_at d routes (of_plan routes plan) k) c) _ p);
           }
 
-  in_map : {X Y : Type 0} (f : X → Y) (xs : List X) (x : X) → In x xs → In (f x) (map f xs)
-  in_map f [] x m = absurd m
-  in_map f (y ∷ ys) x (inl e) = inl (ap f e)
-  in_map f (y ∷ ys) x (inr m) = inr (in_map f ys x m)
+  pub in_sections : (r : Route) (z : SectionNo) → has_section r z ≡ true → In z (sections r)
+  in_sections r z h = go (goes_over r z) refl
+    where
+      numbered : (n : SectionNo) → n.0 ≡ z.0 → n ≡ z
+      numbered n e = ap (λ k. record { 0 = k }) e
+
+      go : (b : Bool) → goes_over r z ≡ b → In z (sections r)
+      go true e =
+          let p = list_any_gives (λ (p : SectionNo × ℤ). p.0.0 == z.0) r.sections e in
+          in_append_left z (own_sections r) (map (λ p. p.section) r.overlaps) (subst (λ w. In w (own_sections r)) (numbered p.0.0 (eqb-true p.0.0.0 z.0 p.2)) (in_map (λ y. y.0) r.sections p.0 p.1))
+      go false e =
+          let p = list_any_gives (λ (p : OverlapSection). p.section.0 == z.0) r.overlaps (sym (ap (λ b. b || overlaps r z) e) ∙ h) in
+          in_append_right z (own_sections r) (map (λ p. p.section) r.overlaps) (subst (λ w. In w (map (λ (p : OverlapSection). p.section) r.overlaps)) (numbered p.0.section (eqb-true p.0.section.0 z.0 p.2)) (in_map (λ (p : OverlapSection). p.section) r.overlaps p.0 p.1))
 
   in_shared : (r q : Route) (z : SectionNo) → has_section r z ≡ true → has_section q z ≡ true → In z (shared r q)
-  in_shared r q z h k = go (list_any_gives (λ p. p.0.0 == z.0) r.sections h)
-    where
-      go : (p : SectionNo × ℤ) × In p r.sections × ((p.0.0 == z.0) ≡ true) → In z (shared r q)
-      go (p, m, e) =
-          let same : p.0 ≡ z = ap (λ n. record { 0 = n }) (eqb-true p.0.0 z.0 e) in
-          in_filter (has_section q) (sections r) z (subst (λ w. In w (sections r)) same (in_map (λ y. y.0) r.sections p m)) k
+  in_shared r q z h k = in_filter (has_section q) (sections r) z (in_sections r z h) k
 
   sharing : (r q : Route) (z : SectionNo) → has_section r z ≡ true → has_section q z ≡ true → share r q ≡ true
-  sharing r q z h k = go (list_any_gives (λ p. p.0.0 == z.0) r.sections h)
-    where
-      go : (p : SectionNo × ℤ) × In p r.sections × ((p.0.0 == z.0) ≡ true) → share r q ≡ true
-      go (p, m, e) =
-          let same : p.0 ≡ z = ap (λ n. record { 0 = n }) (eqb-true p.0.0 z.0 e) in
-          list_any_from (λ p. has_section q p.0) r.sections p m (ap (has_section q) same ∙ k)
+  sharing r q z h k = list_any_from (has_section q) (sections r) z (in_sections r z h) k
 
   -- of two holders neither precedes the other
   no_order : (k : ℕ) (t u : TrainNo) (z : SectionNo) (a : Holder k t z) (b : Holder k u z) → precedes routes plan a.command b.command ≡ true → ⊥
   no_order k t u z a b p =
-      let cleared = granted_cleared k b.command b.granted in
+      let cleared = granted_cleared d routes (of_plan routes plan) k b.command b.granted in
       let out = cleared.each a.command z (in_filter (λ e. precedes routes plan e b.command) (commands plan) a.command a.member p) (in_shared (route_at routes a.command.route) (route_at routes b.command.route) z a.section b.section) in
       let no = a.unreleased in
       true≢false (sym out ∙ no)

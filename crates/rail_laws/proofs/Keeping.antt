@@ -9,7 +9,7 @@ use Rattle.rail_spec.specs.Track.{routes_of}
 use Rattle.rail_spec.specs.Plans.{path_routes, is_well_formed}
 use Rattle.rail_spec.specs.Motion.{MotorSeen, SpanSeen, KeepsLimits, may_stop, permitted, next_speed}
 use Rattle.rail_spec.specs.Dispatches.{state_of, rates, binding_length, stretches, of_plan, granted_after, moved, with_granted, authority}
-use Rattle.rail_spec.specs.Dispatches.{state_at}
+use Rattle.rail_spec.specs.Dispatches.{pasts_at, state_at}
 use Rattle.rail_base.specs.Admitted.{IsAdmitted}
 use Rattle.rail_base.specs.Stations.{IsTrain}
 use Rattle.rail_laws.proofs.MotionLaws.{can_brake_keeps, permitted_reach, permitted_brakes, next_speed_permitted}
@@ -35,7 +35,7 @@ module _ (d : Station) (adm : IsAdmitted d) (n : ℕ) (plan : List (List Command
   Keeps t old new = 1 ≤ new.granted → KeepsLimits (rates d t).top (stretches d (given t new.granted)) (old.x - binding_length d t) new.x new.v
 
   pub keeps_all_limits : (k : ℕ) (t : TrainNo) → Keeps t (state_of (state_at d (routes_of d) (of_plan (routes_of d) plan) k) t) (state_of (state_at d (routes_of d) (of_plan (routes_of d) plan) (suc k)) t)
-  keeps_all_limits k t = by_tick d (routes_of d) plan (Keeps t) k t (λ none. absurd (omega arith)) (λ low high. one (low, high) (state_of (state_at d (routes_of d) (of_plan (routes_of d) plan) k) t) (granted_after d (routes_of d) (of_plan (routes_of d) plan) (state_at d (routes_of d) (of_plan (routes_of d) plan) k) t) (travels d (routes_of d) plan (sound d adm n plan formed) k t) (next_grants d (routes_of d) plan (state_at d (routes_of d) (of_plan (routes_of d) plan) k) t))
+  keeps_all_limits k t = by_tick d (routes_of d) plan (Keeps t) k t (λ none. absurd (omega arith)) (λ low high. one (low, high) (state_of (state_at d (routes_of d) (of_plan (routes_of d) plan) k) t) (granted_after d (routes_of d) (of_plan (routes_of d) plan) (pasts_at d (routes_of d) (of_plan (routes_of d) plan) k) t) (travels d (routes_of d) plan (sound d adm n plan formed) k t) (next_grants d (routes_of d) plan (pasts_at d (routes_of d) (of_plan (routes_of d) plan) k) t))
     where
       one : IsTrain d t → (old : TrainState) (g : ℕ) → Travels d (routes_of d) plan t old → (g ≡ old.granted) ⊎ (g ≡ old.granted + 1) → Keeps t old (moved d (routes_of d) (of_plan (routes_of d) plan) t old g)
       one named old zero h e some = λ p l m. absurd (omega arith)

@@ -18,6 +18,7 @@ pub mod Given
 pub mod Running
 pub mod Lengths
 pub mod Admits
+pub mod KeptFree
 pub mod Keeping
 pub mod Moving
 pub mod Points

@@ -36,6 +36,7 @@ module _ (d : Station) (adm : IsAdmitted d) where
     pub lively : IsLively d (routes_of d) plan
     lively = record {
       moves = λ t h. let v = adm.vehicle _ (adm.train t h).vehicle in (v.gains, v.slows, v.moves);
+      ticks = let t = adm.tick in let l = t.0 in omega arith;
       limits = limits;
       released_in = λ r z. (good_route d adm r).released_in z;
       differs = path_differs d adm n plan able.well_formed;

@@ -1,33 +1,39 @@
 -- In every run of a runnable plan each command is granted in time.
-use Rattle.std.proofs.Common.{◌≡◌, ℕ, zero, suc, ◌+◌, ◌≤◌, ◌<◌, ◌⊎◌, inl, inr, min, Bool, true, false, cond, not, ◌&&◌, ◌||◌, if◌then◌else◌, ◌==◌, nat_le, nat_lt, List, [], ◌∷◌, map, filter, flat_map, take, length, slice_get, Option, Some, None, sum_by, refl, sym, ap, subst, ◌∙◌, arith, leb-true, leb-false, le-leb, eqb-true, eq-eqb, eq-or-lt_of_le, ◌-◌, true≢false, length-take, length-append, take_all}
+use Rattle.std.proofs.Common.{◌≡◌, ℕ, zero, suc, ◌+◌, ◌≤◌, ◌<◌, ◌⊎◌, inl, inr, min, Bool, true, false, cond, not, ◌&&◌, ◌||◌, if◌then◌else◌, ◌==◌, nat_le, nat_lt, List, [], ◌∷◌, map, filter, flat_map, take, length, slice_get, Option, Some, None, ℤ, fold, max, sum_by, refl, sym, ap, subst, ◌∙◌, arith, leb-true, leb-false, le-leb, eqb-true, eq-eqb, eq-or-lt_of_le, ◌-◌, true≢false, length-take, length-append, take_all, div-mul-le_self}
 use Rattle.std.specs.List.{list_any, list_all, sum}
 use Rattle.std.specs.Option.{option_or}
 use Rattle.std.proofs.lemmas.List.Sums.{sum_by-cons, sum_by-take-le}
 use Rattle.std.proofs.lemmas.Option.{slice_get_within}
+use Rattle.std.proofs.lemmas.Nat.{le-div}
 use Rattle.rail_base.specs.declared.station.Station.{Station}
 use Rattle.rail_base.specs.declared.station.EdgeNo.{EdgeNo}
 use Rattle.rail_base.specs.declared.station.SectionNo.{SectionNo}
 use Rattle.rail_base.specs.declared.station.TrainNo.{TrainNo}
 use Rattle.rail_base.specs.declared.route.Route.{Route}
 use Rattle.rail_base.specs.declared.route.RouteNo.{RouteNo}
+use Rattle.rail_base.specs.declared.route.OverlapSection.{OverlapSection}
 use Rattle.rail_base.specs.declared.plan.Command.{Command}
+use Rattle.rail_base.specs.declared.state.Event.{Event}
+use Rattle.rail_base.specs.declared.state.TrainEvent.{TrainEvent}
 use Rattle.rail_base.specs.declared.state.TrainState.{TrainState}
 use Rattle.rail_base.specs.Numbering.{count_from, one_to, before_first}
+use Rattle.rail_base.specs.Events.{has_happened}
 use Rattle.rail_base.specs.Members.{In, Differ}
-use Rattle.rail_base.specs.Stations.{edge_of, trains, train_length, per_tick_speed, IsTrain, dwell_ticks}
+use Rattle.rail_base.specs.Stations.{edge_of, trains, train_length, per_tick_speed, IsTrain, whole_ticks, dwell_ticks}
 use Rattle.rail_spec.specs.Track.{edge_ends}
-use Rattle.rail_spec.specs.Plans.{route_at, length_mm, share, shared, release_offset, exits, is_train, is_route, commands, routes_given, path, path_routes, step_of, precedes, preceding, one_each, given_between, can_clear, may_stand, is_executable}
+use Rattle.rail_spec.specs.Plans.{route_at, length_mm, sections, own_sections, has_section, goes_over, share, shared, own_shared, release_offset, hold_ms, exits, is_train, is_route, commands, routes_given, path, path_routes, step_of, precedes, preceding, one_each, given_between, can_clear, may_stand, is_executable}
 use Rattle.rail_spec.specs.Motion.{SpanSeen, may_stop}
-use Rattle.rail_spec.specs.Dispatches.{state_of, rates, stretch, stretches, of_plan, routes_before, speed_in, with_granted, track_end, is_at, stop_place, authority, stands}
+use Rattle.rail_spec.specs.Dispatches.{state_of, ago, past_of, has_come, release_of_own, release_of_overlap, rates, stretch, stretches, of_plan, routes_before, speed_in, with_granted, track_end, is_at, stop_place, authority, stands}
 use Rattle.rail_spec.specs.Dispatches.{is_granted, has_released, has_cleared, is_ready, granted_with, granted_after}
-use Rattle.rail_spec.specs.Dispatches.{moved, state_at}
-use Rattle.rail_laws.specs.Progress.{MayMove, last_grant}
-use Rattle.rail_base.proofs.Members.{and_left, and_right, list_all_at, list_any_gives, list_any_from, below_or_not, is_false, not_less}
+use Rattle.rail_spec.specs.Dispatches.{moved, pasts_at, state_at}
+use Rattle.rail_laws.specs.Progress.{MayMove, hold_ticks, last_grant}
+use Rattle.rail_base.proofs.Members.{and_left, and_right, and_both, in_filter, list_all_at, list_any_gives, list_any_from, below_or_not, is_false, not_less}
 use Rattle.rail_base.proofs.Lists.{in_map, in_map_back, in_filter_back, in_count, in_flat_map_back, length-map}
 use Rattle.rail_laws.proofs.Sums.{sum_by-map, sum_by-add, sum_by-le, sum_by-less, sum_by-none, sum_by-filter, between, filter-after, list_all_fails, in_get, get_in, get_below, get_map, get_take, take_map, one_place}
-use Rattle.rail_laws.proofs.Exclusion.{state_of-tick, by_tick, run_later, granted_after_more, idle_at_first, is_granted_later}
+use Rattle.rail_laws.proofs.Exclusion.{by_tick, run_later}
+use Rattle.rail_laws.proofs.Running.{Later, Moves, Idles, after_tick, state_is_last, ago_falls, ago_later, happens_on, granted_after_more, idle_at_first, is_granted_up_to}
 use Rattle.rail_laws.proofs.Standing.{in_path}
-use Rattle.rail_laws.proofs.AsEdges.{edge_of_end}
+use Rattle.rail_laws.proofs.AsEdges.{edge_of_end, fold_above, fold_reached}
 use Rattle.rail_laws.proofs.Admits.{once_from}
 use Rattle.rail_laws.proofs.Given.{same_train, path_is, command_in_path, steps_rise}
 use Rattle.rail_laws.proofs.Moving.{moves_on}
@@ -84,6 +90,15 @@ own_within (q ∷ rs) (suc i) r h =
     let b = sum_by-cons length_mm q rs in
     let c = own_within rs i r h in omega arith
 
+-- what is before a route, with its own length
+taken_one_more : (rs : List Route) (i : ℕ) (r : Route) → slice_get rs i ≡ Some r → sum_by length_mm (take (suc i) rs) ≡ sum_by length_mm (take i rs) + length_mm r
+taken_one_more [] i r h = cc
+taken_one_more (q ∷ rs) zero r h = let same : length_mm q ≡ length_mm r = let e : q ≡ r = cc in ap length_mm e in let s = sum_by-cons length_mm q (take 0 rs) in omega arith
+taken_one_more (q ∷ rs) (suc i) r h =
+    let a = sum_by-cons length_mm q (take i rs) in
+    let b = sum_by-cons length_mm q (take (suc i) rs) in
+    let c = taken_one_more rs i r h in omega arith
+
 may_move : (rs : List Route) (x : ℕ) → (list_any exits rs ≡ true) ⊎ (x < sum_by length_mm rs) → MayMove (track_end rs) x
 may_move rs x h = go (list_any exits rs) refl h
   where
@@ -92,10 +107,62 @@ may_move rs x h = go (list_any exits rs) refl h
     go false e (inl k) = absurd (true≢false (sym k ∙ e))
     go false e (inr k) = k
 
--- ---- each command is in one train's path at most
-
 abbrev one_if : Bool → ℕ
 one_if b = if b then 1 else 0
+
+-- ---- how long an event has been
+
+one_most : (b : Bool) → one_if b ≤ 1
+one_most true = omega arith
+one_most false = omega arith
+
+one_grows : (a b : Bool) → (a ≡ true → b ≡ true) → one_if a ≤ one_if b
+one_grows false b h = omega arith
+one_grows true b h = let e : one_if b ≡ one_if true = ap one_if (h refl) in omega arith
+
+-- how many ticks ago it had happened, up to so many
+abbrev ticks_since : ℕ → List TrainState → Event → ℕ
+ticks_since zero past e = 0
+ticks_since (suc n) past e = one_if (has_happened (ago (suc n) past) e) + ticks_since n past e
+
+since_within : (n : ℕ) (past : List TrainState) (e : Event) → ticks_since n past e ≤ n
+since_within zero past e = omega arith
+since_within (suc n) past e = let o = one_most (has_happened (ago (suc n) past) e) in let k = since_within n past e in omega arith
+
+-- one tick more where it has happened and hadn't so long ago
+since_next : (n : ℕ) (s : TrainState) (past : List TrainState) (e : Event) → ticks_since n (s ∷ past) e + one_if (has_happened (ago n past) e) ≡ ticks_since n past e + one_if (has_happened (ago 0 past) e)
+since_next zero s past e = omega arith
+since_next (suc n) s past e =
+    let same : one_if (has_happened (ago (suc n) (s ∷ past)) e) ≡ one_if (has_happened (ago n past) e) = refl in
+    let k = since_next n s past e in omega arith
+
+since_more : (n : ℕ) (s : TrainState) (past : List TrainState) (e : Event) → has_happened (ago 0 past) e ≡ true → has_happened (ago n past) e ≡ false → ticks_since n past e < ticks_since n (s ∷ past) e
+since_more n s past e has not_yet =
+    let a : one_if (has_happened (ago 0 past) e) ≡ one_if true = ap one_if has in
+    let b : one_if (has_happened (ago n past) e) ≡ one_if false = ap one_if not_yet in
+    let k = since_next n s past e in omega arith
+
+-- a section of an overlap is held no longer than any of it
+held_most : (d : Station) → 0 < d.tick_ms → (r : Route) (z : SectionNo) → whole_ticks d (hold_ms r z) ≤ hold_ticks d r
+held_most d some r z = le-div (whole_ticks d (hold_ms r z)) (longest + d.tick_ms - 1) d.tick_ms some (let a = div-mul-le_self (hold_ms r z + d.tick_ms - 1) d.tick_ms in let b = within (fold_reached 0 (map hold (filter of_section r.overlaps))) in omega arith)
+  where
+    hold : OverlapSection → ℕ
+    hold p = p.hold_ms
+
+    of_section : OverlapSection → Bool
+    of_section p = p.section.0 == z.0
+
+    longest : ℕ
+    longest = fold max 0 (map (λ (p : OverlapSection). p.hold_ms) r.overlaps)
+
+    within : (hold_ms r z ≡ 0) ⊎ In (hold_ms r z) (map hold (filter of_section r.overlaps)) → hold_ms r z ≤ longest
+    within (inl none) = omega arith
+    within (inr m) = go (in_map_back hold (filter of_section r.overlaps) (hold_ms r z) m)
+      where
+        go : ((p : OverlapSection) × In p (filter of_section r.overlaps) × (hold p ≡ hold_ms r z)) → hold_ms r z ≤ longest
+        go (p, i, e) = let k = fold_above 0 (map hold r.overlaps) (hold p) (in_map hold r.overlaps p (in_filter_back of_section r.overlaps p i).0) in omega arith
+
+-- ---- each command is in one train's path at most
 
 none_count : (n a m : ℕ) → n < a → sum_by (λ (i : ℕ). one_if (n == i)) (count_from a m) ≡ 0
 none_count n a zero h = refl
@@ -149,6 +216,7 @@ module _ (d : Station) (routes : List Route) (plan : List (List Command)) where
   -- what progress rests on
   pub record IsLively : Type 0 where
     pub moves : (t : TrainNo) → IsTrain d t → (1 ≤ (rates d t).accel) × (1 ≤ (rates d t).brake) × (1 ≤ (rates d t).top)
+    pub ticks : 0 < d.tick_ms
     pub limits : (r : RouteNo) (e : EdgeNo) → In e (route_at routes r).edges → 1 ≤ per_tick_speed d (edge_of d e).speed_mm_s
     pub released_in : (r : RouteNo) (z : SectionNo) → release_offset (route_at routes r) z ≤ length_mm (route_at routes r)
     pub differs : (t : TrainNo) → Differ (path plan t)
@@ -167,17 +235,89 @@ module _ (d : Station) (routes : List Route) (plan : List (List Command)) where
   abbrev pub reach_of : TrainNo → ℕ
   reach_of t = sum_by length_mm (rs_of t) + (if list_any exits (rs_of t) then train_length d t else 0)
 
+  abbrev past : ℕ → TrainNo → List TrainState
+  past k t = past_of (pasts_at d routes (of_plan routes plan) k) t
+
+  -- its arrival at the end of the route in this place of its path
+  abbrev arrival : TrainNo → ℕ → Event
+  arrival t j = record { granted = suc j; place = sum_by length_mm (take (suc j) (rs_of t)) }
+
+  -- for how many ticks the overlaps have been held after its arrivals, at most as many as they are held
+  abbrev held_after : List TrainState → TrainNo → ℕ → List Route → ℕ
+  held_after ss t j [] = 0
+  held_after ss t j (r ∷ rs) = ticks_since (hold_ticks d r) ss (arrival t j) + held_after ss t (suc j) rs
+
   abbrev pub measure : ℕ → ℕ
-  measure k = sum_by (λ t. (now k t).granted + min (now k t).x (reach_of t) + (now k t).stood) (trains d)
+  measure k = sum_by (λ t. (now k t).granted + min (now k t).x (reach_of t) + (now k t).stood + held_after (past k t) t 0 (rs_of t)) (trains d)
+
+  held_within : (ss : List TrainState) (t : TrainNo) (j : ℕ) (rs : List Route) → held_after ss t j rs ≤ sum_by (hold_ticks d) rs
+  held_within ss t j [] = omega arith
+  held_within ss t j (r ∷ rs) =
+      let a = since_within (hold_ticks d r) ss (arrival t j) in
+      let b = held_within ss t (suc j) rs in
+      let c = sum_by-cons (hold_ticks d) r rs in omega arith
+
+  since_grows : (k : ℕ) (t : TrainNo) (n : ℕ) (e : Event) → ticks_since n (past k t) e ≤ ticks_since n (past (suc k) t) e
+  since_grows k t zero e = omega arith
+  since_grows k t (suc n) e =
+      let a = one_grows (has_happened (ago (suc n) (past k t)) e) (has_happened (ago (suc n) (past (suc k) t)) e) (happens_on d routes (of_plan routes plan) (ago (suc n) (past k t)) (ago (suc n) (past (suc k) t)) e (ago_later d routes (of_plan routes plan) k (suc n) t)) in
+      let b = since_grows k t n e in omega arith
+
+  held_grows : (k : ℕ) (t : TrainNo) (j : ℕ) (rs : List Route) → held_after (past k t) t j rs ≤ held_after (past (suc k) t) t j rs
+  held_grows k t j [] = omega arith
+  held_grows k t j (r ∷ rs) = let a = since_grows k t (hold_ticks d r) (arrival t j) in let b = held_grows k t (suc j) rs in omega arith
+
+  -- where one of them has been held a tick more, all have
+  held_more : (k : ℕ) (t : TrainNo) (j : ℕ) (rs : List Route) (i m : ℕ) (r : Route) → slice_get rs i ≡ Some r → m ≡ j + i → ticks_since (hold_ticks d r) (past k t) (arrival t m) < ticks_since (hold_ticks d r) (past (suc k) t) (arrival t m)
+      → held_after (past k t) t j rs < held_after (past (suc k) t) t j rs
+  held_more k t j [] i m r h e less = cc
+  held_more k t j (q ∷ rs) zero m r h e less =
+      let same : r ≡ q = cc in
+      let here : m ≡ j = omega arith in
+      let a : ticks_since (hold_ticks d q) (past k t) (arrival t j) < ticks_since (hold_ticks d q) (past (suc k) t) (arrival t j) =
+      subst (λ n. ticks_since (hold_ticks d q) (past k t) (arrival t n) < ticks_since (hold_ticks d q) (past (suc k) t) (arrival t n)) here
+      (subst (λ (w : Route). ticks_since (hold_ticks d w) (past k t) (arrival t m) < ticks_since (hold_ticks d w) (past (suc k) t) (arrival t m)) same less) in
+      let b = held_grows k t (suc j) rs in omega arith
+  held_more k t j (q ∷ rs) (suc i) m r h e less =
+      let a = since_grows k t (hold_ticks d q) (arrival t j) in
+      let b = held_more k t (suc j) rs i m r h (omega arith) less in omega arith
+
+  -- the further back, the less had happened
+  ago_further : (k : ℕ) (t : TrainNo) (n m : ℕ) → Later d routes (of_plan routes plan) (ago (n + m) (past k t)) (ago n (past k t))
+  ago_further k t n zero = let z : n + 0 ≡ n = omega arith in subst (λ i. Later d routes (of_plan routes plan) (ago i (past k t)) (ago n (past k t))) (sym z) (record { granted = omega arith; x = omega arith })
+  ago_further k t n (suc m) =
+      let z : n + suc m ≡ suc (n + m) = omega arith in
+      let a = ago_further k t n m in
+      let b = ago_falls d routes (of_plan routes plan) k (n + m) t in
+      let ag = a.granted in let ax = a.x in let bg = b.granted in let bx = b.x in
+      subst (λ i. Later d routes (of_plan routes plan) (ago i (past k t)) (ago n (past k t))) (sym z) (record { granted = omega arith; x = omega arith })
+
+  not_further : (k : ℕ) (t : TrainNo) (n m : ℕ) (e : Event) → n ≤ m → has_happened (ago n (past k t)) e ≡ false → has_happened (ago m (past k t)) e ≡ false
+  not_further k t n m e l h = go (has_happened (ago m (past k t)) e) refl
+    where
+      later : Later d routes (of_plan routes plan) (ago m (past k t)) (ago n (past k t))
+      later = let z : n + (m - n) ≡ m = omega arith in subst (λ i. Later d routes (of_plan routes plan) (ago i (past k t)) (ago n (past k t))) z (ago_further k t n (m - n))
+
+      go : (b : Bool) → has_happened (ago m (past k t)) e ≡ b → b ≡ false
+      go false f = refl
+      go true f = absurd (true≢false (sym (happens_on d routes (of_plan routes plan) _ _ e later f) ∙ h))
 
   -- ---- the state after a tick
 
-  pub state_after : (k : ℕ) (t : TrainNo) → IsTrain d t → now (suc k) t ≡ moved d routes (of_plan routes plan) t (now k t) (granted_after d routes (of_plan routes plan) (state_at d routes (of_plan routes plan) k) t)
-  state_after k t h = go t.0 h
+  pub state_after : (k : ℕ) (t : TrainNo) → IsTrain d t → now (suc k) t ≡ moved d routes (of_plan routes plan) t (now k t) (granted_after d routes (of_plan routes plan) (pasts_at d routes (of_plan routes plan) k) t)
+  state_after k t h = go (after_tick d routes (of_plan routes plan) k t)
     where
-      go : (n : ℕ) → (1 ≤ n) × (n ≤ length d.trains) → now (suc k) (record { 0 = n }) ≡ moved d routes (of_plan routes plan) (record { 0 = n }) (now k (record { 0 = n })) (granted_after d routes (of_plan routes plan) (state_at d routes (of_plan routes plan) k) (record { 0 = n }))
-      go zero h = absurd (let l = h.0 in omega arith)
-      go (suc i) h = state_of-tick d routes plan (state_at d routes (of_plan routes plan) k) i h.1
+      go : Moves d routes (of_plan routes plan) k t ⊎ Idles d routes (of_plan routes plan) k t → now (suc k) t ≡ moved d routes (of_plan routes plan) t (now k t) (granted_after d routes (of_plan routes plan) (pasts_at d routes (of_plan routes plan) k) t)
+      go (inl m) = m.by_rule
+      go (inr i) = let o = i.out h.0 in let l = h.1 in absurd (omega arith)
+
+  -- every tick concerns it
+  past_after : (k : ℕ) (t : TrainNo) → IsTrain d t → (s : TrainState) × (past (suc k) t ≡ s ∷ past k t)
+  past_after k t h = go (after_tick d routes (of_plan routes plan) k t)
+    where
+      go : Moves d routes (of_plan routes plan) k t ⊎ Idles d routes (of_plan routes plan) k t → (s : TrainState) × (past (suc k) t ≡ s ∷ past k t)
+      go (inl m) = (moved d routes (of_plan routes plan) t (now k t) (granted_after d routes (of_plan routes plan) (pasts_at d routes (of_plan routes plan) k) t), m.past_by_rule)
+      go (inr i) = let o = i.out h.0 in let l = h.1 in absurd (omega arith)
 
   pub moved_granted : (t : TrainNo) (old : TrainState) (n : ℕ) → 1 ≤ n → (moved d routes (of_plan routes plan) t old n).granted ≡ n
   moved_granted t old zero h = absurd (omega arith)
@@ -276,37 +416,37 @@ module _ (d : Station) (routes : List Route) (plan : List (List Command)) where
 
     -- ---- a tick in which it is ready grants it
 
-    granted_more : (k : ℕ) (w : Waiting (state_at d routes (of_plan routes plan) k)) → is_ready d routes (of_plan routes plan) (state_at d routes (of_plan routes plan) k) w.command ≡ true → (now (suc k) w.command.train).granted ≡ (now k w.command.train).granted + 1
+    granted_more : (k : ℕ) (w : Waiting (state_at d routes (of_plan routes plan) k)) → is_ready d routes (of_plan routes plan) (pasts_at d routes (of_plan routes plan) k) w.command ≡ true → (now (suc k) w.command.train).granted ≡ (now k w.command.train).granted + 1
     granted_more k w ready =
         let t = w.command.train in
-        let after : granted_after d routes (of_plan routes plan) (state_at d routes (of_plan routes plan) k) t ≡ (now k t).granted + 1 =
-        ap (granted_with d routes (of_plan routes plan) (state_at d routes (of_plan routes plan) k) t) (next_is (state_at d routes (of_plan routes plan) k) w) ∙ ap (λ b. if b then (now k t).granted + 1 else (now k t).granted) ready in
-        ap (λ (s : TrainState). s.granted) (state_after k t (lively.named w.command w.member)) ∙ moved_granted t (now k t) (granted_after d routes (of_plan routes plan) (state_at d routes (of_plan routes plan) k) t) (omega arith) ∙ after
+        let after : granted_after d routes (of_plan routes plan) (pasts_at d routes (of_plan routes plan) k) t ≡ (now k t).granted + 1 =
+        ap (granted_with d routes (of_plan routes plan) (pasts_at d routes (of_plan routes plan) k) t) (next_is (state_at d routes (of_plan routes plan) k) w) ∙ ap (λ b. if b then (now k t).granted + 1 else (now k t).granted) ready in
+        ap (λ (s : TrainState). s.granted) (state_after k t (lively.named w.command w.member)) ∙ moved_granted t (now k t) (granted_after d routes (of_plan routes plan) (pasts_at d routes (of_plan routes plan) k) t) (omega arith) ∙ after
 
     -- ---- else a train that holds it up has track ahead
 
     -- a command that hasn't released what the waiting one needs
-    pub record Holding (s : List TrainState) (c : Command) : Type 0 where
+    pub record Holding (ps : List (List TrainState)) (c : Command) : Type 0 where
       pub command : Command
       pub member : In command (commands plan)
       pub first : precedes routes plan command c ≡ true
       pub section : SectionNo
       pub on : In section (shared (route_at routes command.route) (route_at routes c.route))
-      pub unreleased : has_released d routes (of_plan routes plan) s command section ≡ false
+      pub unreleased : has_released d routes (of_plan routes plan) ps command section ≡ false
 
-    holding : (s : List TrainState) (c : Command) → is_ready d routes (of_plan routes plan) s c ≡ false → Holding s c
-    holding s c h = go (list_all_fails (has_cleared d routes (of_plan routes plan) s c) (preceding routes plan c) h)
+    holding : (ps : List (List TrainState)) (c : Command) → is_ready d routes (of_plan routes plan) ps c ≡ false → Holding ps c
+    holding ps c h = go (list_all_fails (has_cleared d routes (of_plan routes plan) ps c) (preceding routes plan c) h)
       where
-        go : ((e : Command) × In e (preceding routes plan c) × (has_cleared d routes (of_plan routes plan) s c e ≡ false)) → Holding s c
+        go : ((e : Command) × In e (preceding routes plan c) × (has_cleared d routes (of_plan routes plan) ps c e ≡ false)) → Holding ps c
         go (e, m, f) =
             let kept = in_filter_back (λ (g : Command). precedes routes plan g c) (commands plan) e m in
-            let z = list_all_fails (has_released d routes (of_plan routes plan) s e) (shared (route_at routes e.route) (route_at routes c.route)) f in
+            let z = list_all_fails (has_released d routes (of_plan routes plan) ps e) (shared (route_at routes e.route) (route_at routes c.route)) f in
             record { command = e; member = kept.0; first = kept.1; section = z.0; on = z.1; unreleased = z.2 }
 
     -- the executable plan gives its train enough track before
-    clears : (c e : Command) (z : SectionNo) → In c (commands plan) → In e (commands plan) → precedes routes plan e c ≡ true → In z (shared (route_at routes e.route) (route_at routes c.route)) → can_clear d routes plan e c z ≡ true
+    clears : (c e : Command) (z : SectionNo) → In c (commands plan) → In e (commands plan) → precedes routes plan e c ≡ true → In z (own_shared (route_at routes e.route) (route_at routes c.route)) → can_clear d routes plan e c z ≡ true
     clears c e z m k first on =
-        list_all_at (can_clear d routes plan e c) (shared (route_at routes e.route) (route_at routes c.route)) z (may apart sharing not_later stand) on
+        list_all_at (can_clear d routes plan e c) (own_shared (route_at routes e.route) (route_at routes c.route)) z (may apart sharing not_later stand) on
       where
         sooner : nat_lt (step_of plan e) (step_of plan c) ≡ true
         sooner = and_right (not (is_train e.train c.train) && share (route_at routes e.route) (route_at routes c.route)) _ first
@@ -323,15 +463,24 @@ module _ (d : Station) (routes : List Route) (plan : List (List Command)) where
         stand : may_stand d routes plan e c ≡ true
         stand = list_all_at (may_stand d routes plan e) (commands plan) c (list_all_at _ (commands plan) e lively.can_run k) m
 
-        may : {a b l : Bool} → a ≡ false → b ≡ true → l ≡ false → (a || not b || l || (nat_lt (step_of plan e) (step_of plan c) && list_all (can_clear d routes plan e c) (shared (route_at routes e.route) (route_at routes c.route)))) ≡ true
-            → list_all (can_clear d routes plan e c) (shared (route_at routes e.route) (route_at routes c.route)) ≡ true
+        may : {a b l : Bool} → a ≡ false → b ≡ true → l ≡ false → (a || not b || l || (nat_lt (step_of plan e) (step_of plan c) && list_all (can_clear d routes plan e c) (own_shared (route_at routes e.route) (route_at routes c.route)))) ≡ true
+            → list_all (can_clear d routes plan e c) (own_shared (route_at routes e.route) (route_at routes c.route)) ≡ true
         may {a} {b} {l} ea eb el h = last a b l ea eb el h
           where
-            last : (a b l : Bool) → a ≡ false → b ≡ true → l ≡ false → (a || not b || l || (nat_lt (step_of plan e) (step_of plan c) && list_all (can_clear d routes plan e c) (shared (route_at routes e.route) (route_at routes c.route)))) ≡ true → list_all (can_clear d routes plan e c) (shared (route_at routes e.route) (route_at routes c.route)) ≡ true
+            last : (a b l : Bool) → a ≡ false → b ≡ true → l ≡ false → (a || not b || l || (nat_lt (step_of plan e) (step_of plan c) && list_all (can_clear d routes plan e c) (own_shared (route_at routes e.route) (route_at routes c.route)))) ≡ true → list_all (can_clear d routes plan e c) (own_shared (route_at routes e.route) (route_at routes c.route)) ≡ true
             last true b l ea eb el h = absurd (true≢false ea)
             last false false l ea eb el h = absurd (true≢false (sym eb))
             last false true true ea eb el h = absurd (true≢false el)
             last false true false ea eb el h = and_right (nat_lt (step_of plan e) (step_of plan c)) _ h
+
+    -- such a section is an own one of the route that goes over it
+    own_of_shared : (r q : Route) (z : SectionNo) → In z (shared r q) → goes_over r z ≡ true → In z (own_shared r q)
+    own_of_shared r q z m over = go (list_any_gives (λ (p : SectionNo × ℤ). p.0.0 == z.0) r.sections over)
+      where
+        go : ((p : SectionNo × ℤ) × In p r.sections × ((p.0.0 == z.0) ≡ true)) → In z (own_shared r q)
+        go (p, i, e) =
+            let same : p.0 ≡ z = ap (λ n. record { 0 = n }) (eqb-true p.0.0 z.0 e) in
+            in_filter (has_section q) (own_sections r) z (subst (λ y. In y (own_sections r)) same (in_map (λ (y : SectionNo × ℤ). y.0) r.sections p i)) (in_filter_back (has_section q) (sections r) z m).1
 
     -- of those routes each is granted, and none stands before e's
     module _ (s : List TrainState) (w : Waiting s) (e : Command) (m : In e (commands plan)) (sooner : step_of plan e < step_of plan w.command) where
@@ -424,7 +573,7 @@ module _ (d : Station) (routes : List Route) (plan : List (List Command)) where
           go (r, k, x) = at r (in_map_back (λ (g : Command). route_at routes g.route) (given_between plan e w.command) r k) x
 
       -- so the train that holds a section has track ahead, and needs it
-      ahead : (z : SectionNo) → can_clear d routes plan e w.command z ≡ true → has_released d routes (of_plan routes plan) s e z ≡ false
+      ahead : (z : SectionNo) → can_clear d routes plan e w.command z ≡ true → has_happened (state_of s e.train) (release_of_own d routes (of_plan routes plan) e z).event ≡ false
           → ((list_any exits (take (state_of s e.train).granted (rs_of e.train)) ≡ true) ⊎ ((state_of s e.train).x < sum_by length_mm (take (state_of s e.train).granted (rs_of e.train)))) × ((state_of s e.train).x < reach_of e.train)
       ahead z clear un = go (list_any exits (take (state_of s e.train).granted (rs_of e.train))) refl (either _ _ clear)
         where
@@ -481,8 +630,8 @@ module _ (d : Station) (routes : List Route) (plan : List (List Command)) where
 
     goes_on : (k : ℕ) (t : TrainNo) → IsTrain d t → 1 ≤ (now k t).granted → (list_any exits (take (now k t).granted (rs_of t)) ≡ true) ⊎ ((now k t).x < sum_by length_mm (take (now k t).granted (rs_of t))) → GoesOn k t
     goes_on k t h some track =
-        by_grants (granted_after d routes (of_plan routes plan) (state_at d routes (of_plan routes plan) k) t) (granted_after_more d routes plan (state_at d routes (of_plan routes plan) k) t)
-        (next_grants d routes plan (state_at d routes (of_plan routes plan) k) t) (state_after k t h)
+        by_grants (granted_after d routes (of_plan routes plan) (pasts_at d routes (of_plan routes plan) k) t) (granted_after_more d routes (of_plan routes plan) (pasts_at d routes (of_plan routes plan) k) t)
+        (next_grants d routes plan (pasts_at d routes (of_plan routes plan) k) t) (state_after k t h)
       where
         longer : (g : ℕ) → (now k t).granted ≤ g → (list_any exits (take (now k t).granted (rs_of t)) ≡ true) ⊎ ((now k t).x < sum_by length_mm (take (now k t).granted (rs_of t))) → (list_any exits (take g (rs_of t)) ≡ true) ⊎ ((now k t).x < sum_by length_mm (take g (rs_of t)))
         longer g l (inl e) = inl (exits_longer (now k t).granted g (rs_of t) l e)
@@ -520,49 +669,109 @@ module _ (d : Station) (routes : List Route) (plan : List (List Command)) where
     in_trains t h = in_map (λ n. record { 0 = n }) (one_to (length d.trains)) t.0 (let l = h.0 in let u = h.1 in in_count 1 (length d.trains) t.0 l (omega arith))
 
     abbrev share_of : ℕ → TrainNo → ℕ
-    share_of k t = (now k t).granted + min (now k t).x (reach_of t) + (now k t).stood
+    share_of k t = (now k t).granted + min (now k t).x (reach_of t) + (now k t).stood + held_after (past k t) t 0 (rs_of t)
 
     stood_grows : (k : ℕ) (t : TrainNo) → (now k t).stood ≤ (now (suc k) t).stood
     stood_grows k t = stood_later d routes (of_plan routes plan) k t
 
     share_grows : (k : ℕ) (t : TrainNo) → share_of k t ≤ share_of (suc k) t
-    share_grows k t = let l = run_later d routes plan k t in let g = l.granted in let x = l.x in let s = stood_grows k t in omega arith
+    share_grows k t = let l = run_later d routes plan k t in let g = l.granted in let x = l.x in let s = stood_grows k t in let h = held_grows k t 0 (rs_of t) in omega arith
 
     measure_grows : (k : ℕ) (t : TrainNo) → IsTrain d t → share_of k t < share_of (suc k) t → measure k < measure (suc k)
     measure_grows k t h less = sum_by-less (share_of k) (share_of (suc k)) (trains d) t (share_grows k) (in_trains t h) less
 
     going_counts : (k : ℕ) (t : TrainNo) → IsTrain d t → (now k t).x < reach_of t → GoesOn k t → measure k < measure (suc k)
-    going_counts k t h need (inl moves) = let g = (run_later d routes plan k t).granted in let s = stood_grows k t in measure_grows k t h (omega arith)
-    going_counts k t h need (inr stood) = let l = run_later d routes plan k t in let g = l.granted in let x = l.x in measure_grows k t h (omega arith)
+    going_counts k t h need (inl moves) = let g = (run_later d routes plan k t).granted in let s = stood_grows k t in let o = held_grows k t 0 (rs_of t) in measure_grows k t h (omega arith)
+    going_counts k t h need (inr stood) = let l = run_later d routes plan k t in let g = l.granted in let x = l.x in let o = held_grows k t 0 (rs_of t) in measure_grows k t h (omega arith)
+
+    -- a command that holds a section of its overlap has its train run up to the route's end, or time run on from there
+    overlap_counts : (k : ℕ) (e : Command) (z : SectionNo) → In e (commands plan) → is_granted d routes (of_plan routes plan) (state_at d routes (of_plan routes plan) k) e ≡ true
+        → has_come (pasts_at d routes (of_plan routes plan) k) (release_of_overlap d routes (of_plan routes plan) e z) ≡ false → measure k < measure (suc k)
+    overlap_counts k e z m granted un = go (below_or_not (now k e.train).x (sum_by length_mm (take (suc p.number) (rs_of e.train))))
+      where
+        p : Place e
+        p = place e m
+
+        named : IsTrain d e.train
+        named = lively.named e m
+
+        there : slice_get (rs_of e.train) p.number ≡ Some (route_at routes e.route)
+        there = get_map (route_at routes) (path plan e.train) p.number e.route p.there
+
+        has : p.number < (now k e.train).granted
+        has = granted_from (state_at d routes (of_plan routes plan) k) e p granted
+
+        arrives : (release_of_overlap d routes (of_plan routes plan) e z).event ≡ arrival e.train p.number
+        arrives =
+            let place_is : sum_by length_mm (routes_before d routes (of_plan routes plan) e) + length_mm (route_at routes e.route) ≡ sum_by length_mm (take (suc p.number) (rs_of e.train)) = let b = p.length_before in let o = taken_one_more (rs_of e.train) p.number (route_at routes e.route) there in omega arith in
+            ap (λ n. record { granted = suc n; place = sum_by length_mm (routes_before d routes (of_plan routes plan) e) + length_mm (route_at routes e.route) }) p.before
+            ∙ ap (λ n. record { granted = suc p.number; place = n }) place_is
+
+        not_yet : has_happened (ago (hold_ticks d (route_at routes e.route)) (past k e.train)) (arrival e.train p.number) ≡ false
+        not_yet = not_further k e.train (whole_ticks d (hold_ms (route_at routes e.route) z)) (hold_ticks d (route_at routes e.route)) (arrival e.train p.number) (held_most d lively.ticks (route_at routes e.route) z)
+            (ap (has_happened (ago (whole_ticks d (hold_ms (route_at routes e.route) z)) (past k e.train))) (sym arrives) ∙ un)
+
+        go : ((now k e.train).x < sum_by length_mm (take (suc p.number) (rs_of e.train))) ⊎ (sum_by length_mm (take (suc p.number) (rs_of e.train)) ≤ (now k e.train).x) → measure k < measure (suc k)
+        go (inl short) =
+            let g = has in
+            let a = sum_longer (suc p.number) (now k e.train).granted (rs_of e.train) (omega arith) in
+            let b = sum_by-take-le length_mm (rs_of e.train) (suc p.number) in
+            going_counts k e.train named (omega arith) (goes_on k e.train named (omega arith) (inr (omega arith)))
+        go (inr far) =
+            let g = has in
+            let now_happened : has_happened (ago 0 (past k e.train)) (arrival e.train p.number) ≡ true =
+            ap (λ s. has_happened s (arrival e.train p.number)) (sym (state_is_last d routes (of_plan routes plan) (pasts_at d routes (of_plan routes plan) k) e.train))
+            ∙ and_both _ _ (le-leb (suc p.number) (now k e.train).granted (omega arith)) (le-leb _ (now k e.train).x far) in
+            let next = past_after k e.train named in
+            let more : ticks_since (hold_ticks d (route_at routes e.route)) (past k e.train) (arrival e.train p.number) < ticks_since (hold_ticks d (route_at routes e.route)) (past (suc k) e.train) (arrival e.train p.number) =
+            subst (λ ss. ticks_since (hold_ticks d (route_at routes e.route)) (past k e.train) (arrival e.train p.number) < ticks_since (hold_ticks d (route_at routes e.route)) ss (arrival e.train p.number)) (sym next.1)
+            (since_more (hold_ticks d (route_at routes e.route)) next.0 (past k e.train) (arrival e.train p.number) now_happened not_yet) in
+            let l = run_later d routes plan k e.train in let lg = l.granted in let lx = l.x in let s = stood_grows k e.train in
+            let o = held_more k e.train 0 (rs_of e.train) p.number p.number (route_at routes e.route) there (omega arith) more in
+            measure_grows k e.train named (omega arith)
 
     pub tick_counts : (k : ℕ) (c : Command) → In c (commands plan) → is_granted d routes (of_plan routes plan) (state_at d routes (of_plan routes plan) k) c ≡ false → measure k < measure (suc k)
     tick_counts k c m h = at (some_waits (state_at d routes (of_plan routes plan) k) c m h)
       where
         at : Waiting (state_at d routes (of_plan routes plan) k) → measure k < measure (suc k)
-        at w = go (is_ready d routes (of_plan routes plan) (state_at d routes (of_plan routes plan) k) w.command) refl
+        at w = go (is_ready d routes (of_plan routes plan) (pasts_at d routes (of_plan routes plan) k) w.command) refl
           where
             t : TrainNo
             t = w.command.train
 
-            held : Holding (state_at d routes (of_plan routes plan) k) w.command → measure k < measure (suc k)
-            held o =
-                let e = o.command in
-                let sooner : step_of plan e < step_of plan w.command = leb-true _ _ (and_right (not (is_train e.train w.command.train) && share (route_at routes e.route) (route_at routes w.command.route)) _ o.first) in
-                let clear = clears w.command e o.section w.member o.member o.first o.on in
-                let track = ahead (state_at d routes (of_plan routes plan) k) w e o.member sooner o.section clear o.unreleased in
-                let has = e_granted (state_at d routes (of_plan routes plan) k) w e o.member sooner in
-                going_counts k e.train (lively.named e o.member) track.1 (goes_on k e.train (lively.named e o.member) (omega arith) track.0)
+            held : Holding (pasts_at d routes (of_plan routes plan) k) w.command → measure k < measure (suc k)
+            held o = by_kind (goes_over (route_at routes o.command.route) o.section) refl
+              where
+                sooner : step_of plan o.command < step_of plan w.command
+                sooner = leb-true _ _ (and_right (not (is_train o.command.train w.command.train) && share (route_at routes o.command.route) (route_at routes w.command.route)) _ o.first)
 
-            go : (b : Bool) → is_ready d routes (of_plan routes plan) (state_at d routes (of_plan routes plan) k) w.command ≡ b → measure k < measure (suc k)
-            go true ready = let g = granted_more k w ready in let x = (run_later d routes plan k w.command.train).x in let s = stood_grows k w.command.train in measure_grows k w.command.train (lively.named w.command w.member) (omega arith)
-            go false not_ready = held (holding (state_at d routes (of_plan routes plan) k) w.command not_ready)
+                has : (place o.command o.member).number < (now k o.command.train).granted
+                has = e_granted (state_at d routes (of_plan routes plan) k) w o.command o.member sooner
+
+                event_of : Bool → TrainEvent
+                event_of b = if b then release_of_own d routes (of_plan routes plan) o.command o.section else release_of_overlap d routes (of_plan routes plan) o.command o.section
+
+                by_kind : (b : Bool) → goes_over (route_at routes o.command.route) o.section ≡ b → measure k < measure (suc k)
+                by_kind false over = overlap_counts k o.command o.section o.member (w.before o.command o.member sooner) (ap (λ b. has_come (pasts_at d routes (of_plan routes plan) k) (event_of b)) (sym over) ∙ o.unreleased)
+                by_kind true over =
+                    let un : has_happened (now k o.command.train) (release_of_own d routes (of_plan routes plan) o.command o.section).event ≡ false =
+                    ap (λ s. has_happened s (release_of_own d routes (of_plan routes plan) o.command o.section).event) (state_is_last d routes (of_plan routes plan) (pasts_at d routes (of_plan routes plan) k) o.command.train)
+                    ∙ ap (λ b. has_come (pasts_at d routes (of_plan routes plan) k) (event_of b)) (sym over) ∙ o.unreleased in
+                    let clear = clears w.command o.command o.section w.member o.member o.first (own_of_shared (route_at routes o.command.route) (route_at routes w.command.route) o.section o.on over) in
+                    let track = ahead (state_at d routes (of_plan routes plan) k) w o.command o.member sooner o.section clear un in
+                    let g = has in
+                    going_counts k o.command.train (lively.named o.command o.member) track.1 (goes_on k o.command.train (lively.named o.command o.member) (omega arith) track.0)
+
+            go : (b : Bool) → is_ready d routes (of_plan routes plan) (pasts_at d routes (of_plan routes plan) k) w.command ≡ b → measure k < measure (suc k)
+            go true ready = let g = granted_more k w ready in let x = (run_later d routes plan k w.command.train).x in let s = stood_grows k w.command.train in let o = held_grows k w.command.train 0 (rs_of w.command.train) in measure_grows k w.command.train (lively.named w.command w.member) (omega arith)
+            go false not_ready = held (holding (pasts_at d routes (of_plan routes plan) k) w.command not_ready)
 
     not_before : (k : ℕ) (c : Command) → is_granted d routes (of_plan routes plan) (state_at d routes (of_plan routes plan) (suc k)) c ≡ false → is_granted d routes (of_plan routes plan) (state_at d routes (of_plan routes plan) k) c ≡ false
     not_before k c h = go (is_granted d routes (of_plan routes plan) (state_at d routes (of_plan routes plan) k) c) refl
       where
         go : (b : Bool) → is_granted d routes (of_plan routes plan) (state_at d routes (of_plan routes plan) k) c ≡ b → b ≡ false
         go false e = refl
-        go true e = absurd (true≢false (sym (is_granted_later d routes plan k c e) ∙ h))
+        go true e = absurd (true≢false (sym (is_granted_up_to d routes (of_plan routes plan) k (suc k) c (omega arith) e) ∙ h))
 
     counts : (k : ℕ) (c : Command) → In c (commands plan) → is_granted d routes (of_plan routes plan) (state_at d routes (of_plan routes plan) k) c ≡ false → suc k ≤ measure (suc k)
     counts zero c m h = let l = tick_counts zero c m h in omega arith
@@ -571,23 +780,23 @@ module _ (d : Station) (routes : List Route) (plan : List (List Command)) where
     -- ---- and there are only so many
 
     granted_within : (k : ℕ) (t : TrainNo) → (now k t).granted ≤ length (path plan t)
-    granted_within zero t = let none = ap (λ (s : TrainState). s.granted) (idle_at_first d routes plan t) in omega arith
-    granted_within (suc k) t = by_tick d routes plan (λ old new. old.granted ≤ length (path plan t) → new.granted ≤ length (path plan t)) k t (λ h. h) (λ low high h. moved_within (granted_after d routes (of_plan routes plan) (state_at d routes (of_plan routes plan) k) t) h (after_within h)) (granted_within k t)
+    granted_within zero t = let none = ap (λ (s : TrainState). s.granted) (idle_at_first d routes (of_plan routes plan) t) in omega arith
+    granted_within (suc k) t = by_tick d routes plan (λ old new. old.granted ≤ length (path plan t) → new.granted ≤ length (path plan t)) k t (λ h. h) (λ low high h. moved_within (granted_after d routes (of_plan routes plan) (pasts_at d routes (of_plan routes plan) k) t) h (after_within h)) (granted_within k t)
       where
         moved_within : (n : ℕ) → (now k t).granted ≤ length (path plan t) → n ≤ length (path plan t) → (moved d routes (of_plan routes plan) t (now k t) n).granted ≤ length (path plan t)
         moved_within zero h l = h
         moved_within (suc n) h l = l
 
-        after_within : (now k t).granted ≤ length (path plan t) → granted_after d routes (of_plan routes plan) (state_at d routes (of_plan routes plan) k) t ≤ length (path plan t)
+        after_within : (now k t).granted ≤ length (path plan t) → granted_after d routes (of_plan routes plan) (pasts_at d routes (of_plan routes plan) k) t ≤ length (path plan t)
         after_within h = go (slice_get (path plan t) (now k t).granted) refl
           where
             step : (b : Bool) (r : RouteNo) → slice_get (path plan t) (now k t).granted ≡ Some r → (if b then (now k t).granted + 1 else (now k t).granted) ≤ length (path plan t)
             step false r e = h
             step true r e = let l = slice_get_within (path plan t) (now k t).granted r e in omega arith
 
-            go : (o : Option RouteNo) → slice_get (path plan t) (now k t).granted ≡ o → granted_with d routes (of_plan routes plan) (state_at d routes (of_plan routes plan) k) t o ≤ length (path plan t)
+            go : (o : Option RouteNo) → slice_get (path plan t) (now k t).granted ≡ o → granted_with d routes (of_plan routes plan) (pasts_at d routes (of_plan routes plan) k) t o ≤ length (path plan t)
             go None e = h
-            go (Some r) e = step (is_ready d routes (of_plan routes plan) (state_at d routes (of_plan routes plan) k) (record { train = t; route = r })) r e
+            go (Some r) e = step (is_ready d routes (of_plan routes plan) (pasts_at d routes (of_plan routes plan) k) (record { train = t; route = r })) r e
 
     reaches : sum_by reach_of (trains d) ≡ sum_by (λ t. sum_by length_mm (rs_of t)) (trains d) + sum_by (train_length d) (filter (λ t. list_any exits (rs_of t)) (trains d))
     reaches =
@@ -596,7 +805,8 @@ module _ (d : Station) (routes : List Route) (plan : List (List Command)) where
 
     measure_within : (k : ℕ) → measure k ≤ last_grant d routes plan
     measure_within k =
-        let a = sum_by-le (share_of k) (λ t. length (path plan t) + reach_of t + sum (dwell_ticks d t)) (trains d) (λ t. let g = granted_within k t in let s : (now k t).stood ≤ sum (dwell_ticks d t) = stood_within d routes (of_plan routes plan) k t in omega arith) in
+        let a = sum_by-le (share_of k) (λ t. length (path plan t) + reach_of t + sum (dwell_ticks d t) + sum_by (hold_ticks d) (rs_of t)) (trains d) (λ t. let g = granted_within k t in let s : (now k t).stood ≤ sum (dwell_ticks d t) = stood_within d routes (of_plan routes plan) k t in let h = held_within (past k t) t 0 (rs_of t) in omega arith) in
+        let h = sum_by-add (λ t. length (path plan t) + reach_of t + sum (dwell_ticks d t)) (λ t. sum_by (hold_ticks d) (rs_of t)) (trains d) in
         let b = sum_by-add (λ t. length (path plan t) + reach_of t) (λ t. sum (dwell_ticks d t)) (trains d) in
         let f = sum_by-add (λ t. length (path plan t)) reach_of (trains d) in
         let c = all_paths d plan in

@@ -14,7 +14,7 @@ use Rattle.rail_spec.specs.Track.{routes_of}
 use Rattle.rail_spec.specs.Plans.{no_route, route_at, length_mm, commands, path, path_routes}
 use Rattle.rail_spec.specs.Motion.{reach, permitted}
 use Rattle.rail_spec.specs.Dispatches.{state_of, rates, stretches, of_plan, granted_after, speed_in, with_granted, authority}
-use Rattle.rail_spec.specs.Dispatches.{moved, state_at}
+use Rattle.rail_spec.specs.Dispatches.{moved, pasts_at, state_at}
 use Rattle.rail_base.specs.Admitted.{IsAdmitted}
 use Rattle.rail_spec.specs.Feasible.{is_of, IsWellFormed}
 use Rattle.rail_base.proofs.Members.{and_left, and_right, list_all_at}
@@ -22,7 +22,8 @@ use Rattle.rail_base.proofs.Lists.{in_map_back, length-map}
 use Rattle.rail_laws.proofs.RouteLaws.{walk_edges, few_edges, route_is}
 use Rattle.rail_laws.proofs.Counting.{at_most}
 use Rattle.rail_laws.proofs.AsEdges.{told}
-use Rattle.rail_laws.proofs.Exclusion.{by_tick, idle_at_first}
+use Rattle.rail_laws.proofs.Exclusion.{by_tick}
+use Rattle.rail_laws.proofs.Running.{idle_at_first}
 use Rattle.rail_laws.proofs.Standing.{in_path}
 use Rattle.rail_laws.proofs.Admits.{entry_is, path_differs}
 
@@ -99,9 +100,9 @@ module _ (d : Station) (adm : IsAdmitted d) where
       pub v : s.v ≤ 100000
 
     pub stays_small : (k : ℕ) (t : TrainNo) → IsSmall k (state_of (state_at d routes (of_plan routes plan) k) t)
-    stays_small zero t = subst (IsSmall zero) (sym (idle_at_first d routes plan t)) (record { x = omega arith; v = omega arith })
+    stays_small zero t = subst (IsSmall zero) (sym (idle_at_first d routes (of_plan routes plan) t)) (record { x = omega arith; v = omega arith })
     stays_small (suc k) t = by_tick d routes plan (λ old new. IsSmall k old → IsSmall (suc k) new) k t (λ h. record { x = omega arith; v = omega arith })
-        (λ low high h. moved_small (state_of (state_at d routes (of_plan routes plan) k) t) (granted_after d routes (of_plan routes plan) (state_at d routes (of_plan routes plan) k) t) (top_speed t (low, high)) h) (stays_small k t)
+        (λ low high h. moved_small (state_of (state_at d routes (of_plan routes plan) k) t) (granted_after d routes (of_plan routes plan) (pasts_at d routes (of_plan routes plan) k) t) (top_speed t (low, high)) h) (stays_small k t)
       where
         moved_small : (old : TrainState) (g : ℕ) → (rates d t).top ≤ 100000 → IsSmall k old → IsSmall (suc k) (moved d routes (of_plan routes plan) t old g)
         moved_small old zero top h = let a = h.x in let s = suc-mul k 100000 in record { x = omega arith; v = h.v }

@@ -1,5 +1,5 @@
 -- A train holds each section on which it stands.
-use Rattle.std.proofs.Common.{◌≡◌, ℕ, zero, suc, ◌+◌, ◌≤◌, ◌<◌, ◌⊎◌, inl, inr, Bool, true, false, cond, not, ◌&&◌, ◌||◌, IsTrue, ◌==◌, nat_le, nat_lt, List, [], ◌∷◌, map, filter, flat_map, take, length, slice_get, sum_by, Some, refl, sym, ap, subst, ◌∙◌, arith, leb-true, le-leb, eqb-true, eq-eqb, length-take}
+use Rattle.std.proofs.Common.{◌≡◌, ℕ, zero, suc, ◌+◌, ◌≤◌, ◌<◌, ◌⊎◌, inl, inr, Bool, true, false, cond, if◌then◌else◌, not, ◌&&◌, ◌||◌, IsTrue, ◌==◌, nat_le, nat_lt, List, [], ◌∷◌, map, filter, flat_map, take, length, slice_get, sum_by, Some, refl, sym, ap, subst, ◌∙◌, arith, leb-true, le-leb, eqb-true, eq-eqb, length-take}
 use Rattle.std.specs.List.{list_any}
 use Rattle.std.proofs.lemmas.List.Sums.{sum_by-cons}
 use Rattle.rail_base.specs.declared.station.Station.{Station}
@@ -12,11 +12,14 @@ use Rattle.rail_base.specs.declared.route.RouteNo.{RouteNo}
 use Rattle.rail_base.specs.Numbering.{before_first}
 use Rattle.rail_spec.specs.Track.{edge_ends}
 use Rattle.rail_base.specs.Stations.{length_of, section_of, train_length, IsTrain}
-use Rattle.rail_spec.specs.Plans.{route_at, has_section, release_offset, length_mm, commands, path, routes_given, is_train, is_route, exits, is_executable}
-use Rattle.rail_spec.specs.Dispatches.{idle, state_of, of_plan, is_granted, has_released, state_at}
+use Rattle.rail_spec.specs.Plans.{route_at, has_section, goes_over, release_offset, length_mm, commands, path, routes_given, is_train, is_route, exits, is_executable}
+use Rattle.rail_spec.specs.Dispatches.{idle, state_of, of_plan, is_granted, release_of_own, release_of_overlap, has_come, has_released, pasts_at, state_at}
+use Rattle.rail_base.specs.Routes.{overlaps}
+use Rattle.rail_base.specs.Events.{has_happened}
 use Rattle.rail_spec.specs.Safety.{covers, stands_on, holds, Clash}
 use Rattle.rail_base.specs.declared.state.TrainState.{TrainState}
-use Rattle.rail_laws.proofs.Exclusion.{holds_apart, past_is_idle}
+use Rattle.rail_laws.proofs.Exclusion.{holds_apart}
+use Rattle.rail_laws.proofs.Running.{past_is_idle, state_is_last}
 use Rattle.rail_base.proofs.Lists.{in_append, in_append_left, in_append_right, length-map}
 use Rattle.rail_base.proofs.Members.{In, and_left, and_right, and_both, list_any_gives, list_any_from, below_or_not, is_false}
 use Rattle.rail_laws.proofs.UnderWay.{edge_ends-append, IsSound, within_track, travels, given, authority_some}
@@ -127,7 +130,7 @@ module _ (d : Station) (routes : List Route) (plan : List (List Command)) where
   -- what is taken for granted: routes as long as their edges, whose sections are those of their edges, and no route twice in a path
   pub record HasSections : Type 0 where
     pub whole : (r : RouteNo) → sum_by (length_of d) (route_at routes r).edges ≡ length_mm (route_at routes r)
-    pub section : (r : RouteNo) (e : EdgeNo × ℕ) → In e (edge_ends d 0 (route_at routes r).edges) → has_section (route_at routes r) (section_of d e.0) ≡ true
+    pub section : (r : RouteNo) (e : EdgeNo × ℕ) → In e (edge_ends d 0 (route_at routes r).edges) → goes_over (route_at routes r) (section_of d e.0) ≡ true
     pub released_after : (r : RouteNo) (e : EdgeNo × ℕ) → In e (edge_ends d 0 (route_at routes r).edges) → e.1 ≤ release_offset (route_at routes r) (section_of d e.0)
     pub once : (t : TrainNo) (i : ℕ) (r : RouteNo) → IsTrain d t → slice_get (path plan t) i ≡ Some r → before_first (λ q. is_route q r) (path plan t) ≡ take i (path plan t)
 
@@ -171,13 +174,17 @@ module _ (d : Station) (routes : List Route) (plan : List (List Command)) where
               let same : section_of d e.0 ≡ z = ap (λ n. record { 0 = n }) here in
               let begins : e.1 < s.x + length_of d e.0 = leb-true _ _ (and_right ((section_of d e.0).0 == z.0) (nat_lt e.1 (s.x + length_of d e.0)) (and_left ((section_of d e.0).0 == z.0 && nat_lt e.1 (s.x + length_of d e.0)) (nat_lt s.x (e.1 + train_length d t)) c)) in
               let tail : s.x < e.1 + train_length d t = leb-true _ _ (and_right ((section_of d e.0).0 == z.0 && nat_lt e.1 (s.x + length_of d e.0)) (nat_lt s.x (e.1 + train_length d t)) c) in
-              let on_section : has_section (route_at routes f.route) z ≡ true = subst (λ y. has_section (route_at routes f.route) y ≡ true) same (has.section f.route (e.0, f.offset) f.member) in
+              let over : goes_over (route_at routes f.route) z ≡ true = subst (λ y. goes_over (route_at routes f.route) y ≡ true) same (has.section f.route (e.0, f.offset) f.member) in
+              let on_section : has_section (route_at routes f.route) z ≡ true = ap (λ b. b || overlaps (route_at routes f.route) z) over in
               let own = ends_after d 0 (route_at routes f.route).edges (e.0, f.offset) f.member in
               let before = has.once t f.place f.route named f.stands_there in
               let released_after : f.offset ≤ release_offset (route_at routes f.route) z = subst (λ y. f.offset ≤ release_offset (route_at routes f.route) y) same (has.released_after f.route (e.0, f.offset) f.member) in
               let is_far : f.place < s.granted = far_granted sound k t f.place named found.1 (let n = f.ends in omega arith) in
               let granted : is_granted d routes (of_plan routes plan) (state_at d routes (of_plan routes plan) k) command ≡ true = le-leb _ _ (let l = length-map (route_at routes) (before_first (λ q. is_route q f.route) (path plan t)) in let n = ap length before in let m = length-take f.place (path plan t) in omega arith) in
-              let unreleased : has_released d routes (of_plan routes plan) (state_at d routes (of_plan routes plan) k) command z ≡ false = and_not _ _ (not_le _ s.x (let w = ap (path_length routes) before in let r = released_after in let n = f.ends in omega arith)) in
+              let unreleased : has_released d routes (of_plan routes plan) (pasts_at d routes (of_plan routes plan) k) command z ≡ false =
+              ap (λ b. has_come (pasts_at d routes (of_plan routes plan) k) (if b then release_of_own d routes (of_plan routes plan) command z else release_of_overlap d routes (of_plan routes plan) command z)) over
+              ∙ ap (λ o. has_happened o (release_of_own d routes (of_plan routes plan) command z).event) (sym (state_is_last d routes (of_plan routes plan) (pasts_at d routes (of_plan routes plan) k) t))
+              ∙ and_not _ _ (not_le _ s.x (let w = ap (path_length routes) before in let r = released_after in let n = f.ends in omega arith)) in
               list_any_from _ (commands plan) command (in_path t plan f.route found.0)
               (and_both _ _ (and_both _ _ (and_both _ _ (eq-eqb t.0 t.0 refl) on_section) granted) (ap not unreleased))
 
@@ -191,9 +198,9 @@ module _ (d : Station) (routes : List Route) (plan : List (List Command)) where
         where
           which : (i < length d.trains) ⊎ (length d.trains ≤ i) → (state_of (state_at d routes (of_plan routes plan) k) (record { 0 = suc i }) ≡ idle) ⊎ IsTrain d (record { 0 = suc i })
           which (inl h) = inr (omega arith, h)
-          which (inr h) = inl (past_is_idle d routes plan k i h)
+          which (inr h) = inl (past_is_idle d routes (of_plan routes plan) k i h)
 
-  stands_named : (k : ℕ) (t : TrainNo) (z : SectionNo) → stands_on d routes plan k t z ≡ true → IsTrain d t
+  pub stands_named : (k : ℕ) (t : TrainNo) (z : SectionNo) → stands_on d routes plan k t z ≡ true → IsTrain d t
   stands_named k t z h = go (idle_or_named k t) (list_any_gives _ _ h)
     where
       go : (state_of (state_at d routes (of_plan routes plan) k) t ≡ idle) ⊎ IsTrain d t → ((e : EdgeNo × ℕ) × In e (edge_ends d 0 (flat_map (λ r. r.edges) (map (route_at routes) (path plan t)))) × (covers d routes plan (state_of (state_at d routes (of_plan routes plan) k) t) t z e ≡ true)) → IsTrain d t
@@ -204,18 +211,20 @@ module _ (d : Station) (routes : List Route) (plan : List (List Command)) where
           let own = ends_after d 0 (flat_map (λ r. r.edges) (map (route_at routes) (path plan t))) e m in
           let x : s.x ≡ 0 = ap (λ (w : TrainState). w.x) rest in absurd (omega arith)
 
+  -- who holds a section or stands on it holds it
+  pub there_holds : IsSound d routes plan → HasSections → (k : ℕ) (t : TrainNo) (z : SectionNo) → (holds d routes plan k t z || stands_on d routes plan k t z) ≡ true → holds d routes plan k t z ≡ true
+  there_holds sound has k t z h = go (holds d routes plan k t z) refl h
+    where
+      go : (b : Bool) → holds d routes plan k t z ≡ b → (b || stands_on d routes plan k t z) ≡ true → b ≡ true
+      go true e h = refl
+      go false e h = sym e ∙ stands_holds sound has k t z (stands_named k t z h) h
+
   -- in a run of an executable plan there is no clash at any tick
   pub no_clash : IsSound d routes plan → HasSections → is_executable d routes plan ≡ true → (k : ℕ) → Clash d routes plan k → ⊥
-  no_clash sound has can k c = go (holds d routes plan k c.one c.section && holds d routes plan k c.other c.section) refl both
+  no_clash sound has can k c =
+      holds_apart d routes plan can k c.one c.other c.section (is_false _ (true_of _ c.differ))
+      (there_holds sound has k c.one c.section (and_left _ (holds d routes plan k c.other c.section || stands_on d routes plan k c.other c.section) both))
+      (there_holds sound has k c.other c.section (and_right (holds d routes plan k c.one c.section || stands_on d routes plan k c.one c.section) _ both))
     where
-      both : (holds d routes plan k c.one c.section && holds d routes plan k c.other c.section || stands_on d routes plan k c.one c.section && stands_on d routes plan k c.other c.section) ≡ true
+      both : ((holds d routes plan k c.one c.section || stands_on d routes plan k c.one c.section) && (holds d routes plan k c.other c.section || stands_on d routes plan k c.other c.section)) ≡ true
       both = true_of _ c.at_once
-
-      holding : holds d routes plan k c.one c.section ≡ true → holds d routes plan k c.other c.section ≡ true → ⊥
-      holding h j = holds_apart d routes plan can k c.one c.other c.section (is_false _ (true_of _ c.differ)) h j
-
-      go : (b : Bool) → (holds d routes plan k c.one c.section && holds d routes plan k c.other c.section) ≡ b → (b || stands_on d routes plan k c.one c.section && stands_on d routes plan k c.other c.section) ≡ true → ⊥
-      go true e h = holding (and_left _ (holds d routes plan k c.other c.section) e) (and_right (holds d routes plan k c.one c.section) _ e)
-      go false e h =
-          holding (stands_holds sound has k c.one c.section (stands_named k c.one c.section (and_left _ (stands_on d routes plan k c.other c.section) h)) (and_left _ (stands_on d routes plan k c.other c.section) h))
-          (stands_holds sound has k c.other c.section (stands_named k c.other c.section (and_right (stands_on d routes plan k c.one c.section) _ h)) (and_right (stands_on d routes plan k c.one c.section) _ h))

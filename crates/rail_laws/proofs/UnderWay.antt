@@ -8,7 +8,7 @@ use Rattle.rail_base.specs.declared.state.TrainState.{TrainState}
 use Rattle.rail_base.specs.Stations.{IsTrain}
 use Rattle.rail_spec.specs.Plans.{path_routes}
 use Rattle.rail_spec.specs.Motion.{permitted, may_stop}
-use Rattle.rail_spec.specs.Dispatches.{state_of, rates, stretches, of_plan, track_end, with_granted, authority, granted_after, state_at}
+use Rattle.rail_spec.specs.Dispatches.{state_of, now, rates, stretches, of_plan, track_end, with_granted, authority, granted_after, state_at}
 use Rattle.rail_laws.specs.Standing.{IsOrderly}
 use Rattle.rail_laws.proofs.Authority as run
 pub use Rattle.rail_laws.proofs.Ahead.{edge_ends-append, further, authority_farther, authority_some}
@@ -24,7 +24,7 @@ module _ (d : Station) (routes : List Route) (plan : List (List Command)) where
   abbrev pub Travels : TrainNo → TrainState → Type 0
   Travels t s = run.Travels d routes (of_plan routes plan) t s
 
-  pub next_grants : (s : List TrainState) (t : TrainNo) → (granted_after d routes (of_plan routes plan) s t ≡ (state_of s t).granted) ⊎ (granted_after d routes (of_plan routes plan) s t ≡ (state_of s t).granted + 1)
+  pub next_grants : (ps : List (List TrainState)) (t : TrainNo) → (granted_after d routes (of_plan routes plan) ps t ≡ (state_of (now ps) t).granted) ⊎ (granted_after d routes (of_plan routes plan) ps t ≡ (state_of (now ps) t).granted + 1)
   next_grants = run.next_grants d routes (of_plan routes plan)
 
   -- full braking is permitted by what is granted now, too

@@ -15,7 +15,7 @@ use Rattle.rail_base.specs.declared.route.Start.TheVariants as start
 use Rattle.rail_base.specs.declared.route.Finish.{Finish}
 use Rattle.rail_base.specs.declared.route.Finish.TheVariants as finish
 use Rattle.rail_base.specs.Members.{In, Pairs, Differ}
-use Rattle.rail_base.specs.Routes.{has_section}
+use Rattle.rail_base.specs.Routes.{goes_over}
 use Rattle.rail_base.specs.Stations.{IsNode, IsEdge, IsSignal, edge_of, node_of, signal_of, through, far_end, length_of}
 use Rattle.rail_base.specs.Stations.{section_of}
 use Rattle.rail_spec.specs.Track.{route_of, edge_ends, first_occurrences, all_walks, end_overlap, RepeatsEdge}
@@ -147,7 +147,7 @@ pub record IsAsItsEdges (d : Station) (r : Route) : Type 0 where
 -- the overlap sections of a route are listed by the overlap at its end, are none of its own, and are there once each
 pub record HasOverlapsBeside (d : Station) (r : Route) : Type 0 where
   pub listed : (p : OverlapSection) → In p r.overlaps → In p.section (end_overlap d r.finish).sections
-  pub not_own : (p : OverlapSection) → In p r.overlaps → has_section r p.section ≡ false
+  pub not_own : (p : OverlapSection) → In p r.overlaps → goes_over r p.section ≡ false
   pub each_once : Pairs (λ (p q : OverlapSection). p.section ≡ q.section → ⊥) r.overlaps
 
 -- some path closes badly where this edge comes next

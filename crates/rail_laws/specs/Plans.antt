@@ -43,7 +43,8 @@ EachRunnable Is = (d : Station) → IsAdmitted d → (n : ℕ) (plan : List (Lis
 
 -- of every plan that is feasible for so many steps, of an admitted design
 abbrev pub EachFeasible : (Station → ℕ → List (List Command) → Type 0) → Type 0
-EachFeasible Is = (d : Station) → IsAdmitted d → (n : ℕ) (plan : List (List Command)) → IsFeasible d n plan → Is d n plan
+EachFeasible Is = (d : Station) → IsAdmitted d → (n : ℕ) (plan : List (List Command))
+    → IsFeasible d n plan → Is d n plan
 
 -- of every number of steps k from 1 to n
 abbrev pub EachStep : (Station → ℕ → ℕ → Type 0) → Type 0
@@ -59,7 +60,7 @@ abbrev pub HoldersAreApart : Station → List Route → List (List Command) → 
 HoldersAreApart d routes plan = (k : ℕ) (t u : TrainNo) (z : SectionNo) → is_train t u ≡ false
     → holds d routes plan k t z ≡ true → holds d routes plan k u z ≡ true → ⊥
 
--- at no tick do two trains hold one section or stand on one
+-- at no tick does a train hold or stand on a section that another holds or stands on
 abbrev pub NeverClash : Station → List Route → List (List Command) → Type 0
 NeverClash d routes plan = (k : ℕ) → Clash d routes plan k → ⊥
 

@@ -14,7 +14,8 @@ OnEachTrack Is = (m : MotorSeen) (ss : List SpanSeen) (end : Option ℕ) → 1 �
 abbrev pub LimitsAreThoseOfPoints : List SpanSeen → Type 0
 LimitsAreThoseOfPoints ss = (top x y u : ℕ) → u ≤ top → (keeps_limits ss x y u ≡ true) ↔ KeepsLimits top ss x y u
 
--- a move from x to y keeps them from so far behind its head exactly where each point of it has, from itself back over that length, no limit below its speed
+-- a move from x to y keeps them from so far behind its head exactly where each point of it has, from itself back over
+-- that length, no limit below its speed
 abbrev pub LimitsBindUnderTrains : List SpanSeen → Type 0
 LimitsBindUnderTrains ss = (top tail x y u : ℕ) → x < y
     → KeepsLimits top ss (x - tail) y u ↔ KeepsUnderTrain top ss tail x y u

@@ -85,7 +85,8 @@ pub fn overlaps_lie_beside_routes()
     ensures { EachDesign (λ d. (r : Route) → In r (routes_of d) → HasOverlapsBeside d r) }
 {}
 
-/// In no run of a well-formed, executable plan of an admitted design do two trains hold one section or stand on one.
+/// In no run of a well-formed, executable plan of an admitted design does a train hold or stand on a section that
+/// another holds or stands on.
 pub fn trains_never_clash()
     ensures { EachFormed StaysApart }
 {}

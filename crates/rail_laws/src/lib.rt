@@ -3,3 +3,4 @@
 
 pub mod dwells;
 pub mod laws;
+pub mod overlaps;

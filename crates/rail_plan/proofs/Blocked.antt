@@ -1,5 +1,5 @@
 -- A command is blocked exactly where the steps up to its own stop it, and a plan is executable where none is.
-use Rattle.std.proofs.Common.{◌≡◌, ℕ, suc, ◌+◌, ◌≤◌, ◌<◌, inl, inr, Bool, true, false, not, cond, ◌&&◌, ◌||◌, ◌==◌, nat_le, nat_lt, List, [], ◌∷◌, ◌++◌, map, filter, flat_map, length, take, drop, get_or, sum_by, refl, sym, ap, subst, ◌∙◌, arith, leb-true, le-leb, eqb-true, eq-eqb, true≢false}
+use Rattle.std.proofs.Common.{◌≡◌, ℕ, suc, ◌+◌, ◌<◌, inl, inr, Bool, true, false, not, cond, ◌&&◌, ◌||◌, ◌==◌, nat_le, nat_lt, List, [], ◌∷◌, ◌++◌, map, filter, flat_map, length, take, drop, get_or, sum_by, refl, sym, ap, ap₂, ◌∙◌, arith, leb-true, le-leb, eqb-true, eq-eqb, true≢false}
 use Rattle.std.specs.List.{list_any, list_all}
 use Rattle.std.proofs.lemmas.List.{append_assoc, append-nil, length-append, length-take-le, take-append-drop, drop_more}
 use Rattle.std.proofs.lemmas.List.Folds.{list_any-append}
@@ -10,17 +10,17 @@ use Rattle.rail_base.specs.declared.station.TrainNo.{TrainNo}
 use Rattle.rail_base.specs.declared.route.Route.{Route}
 use Rattle.rail_base.specs.declared.plan.Command.{Command}
 use Rattle.rail_base.specs.Members.{In}
-use Rattle.rail_base.specs.Stations.{trains, train_of, train_length, IsTrain}
-use Rattle.rail_spec.specs.Plans.{is_train, is_path, commands, route_at, length_mm, sections, has_section, release_offset, exits, path_routes, step_of, can_clear}
-use Rattle.rail_spec.specs.Feasible.{is_of, names_only}
+use Rattle.rail_base.specs.Stations.{trains, train_of, train_length}
+use Rattle.rail_spec.specs.Plans.{is_train, is_path, commands, route_at, length_mm, sections, has_section, goes_over, release_offset, exits, path_routes, step_of, can_clear}
+use Rattle.rail_spec.specs.Feasible.{names_only}
 use Rattle.rail_plan.specs.declared.place.PlanPlace.TheVariants as place
 use Rattle.rail_plan.specs.Ahead.{clears, stops, is_stopped, stopped_sections, stopped_in, stopped}
+use Rattle.rail_plan.specs.Holds.{takes}
 use Rattle.rail_plan.specs.Executable.{keeps_from, blocked_sections, blocked_in}
 use Rattle.rail_plan.specs.Normal.{can_clear_by, given_before}
-use Rattle.rail_base.proofs.Members.{and_both, list_all_at, list_any_gives, filter-append, map-map, false_unless, not_less}
-use Rattle.rail_base.proofs.Lists.{in_append_right, in_filter_back, in_flat_map}
+use Rattle.rail_base.proofs.Members.{and_both, list_any_gives, filter-append, map-map, false_unless, not_less}
+use Rattle.rail_base.proofs.Lists.{in_filter_back}
 use Rattle.rail_laws.proofs.Given.{path_is}
-use Rattle.rail_plan.proofs.Named.{its_train}
 use Rattle.rail_plan.proofs.Firsts.{entry_read}
 use Rattle.rail_plan.proofs.Steps.{step_is, step_within}
 use Rattle.rail_plan.proofs.Empties.{none_in}
@@ -53,6 +53,39 @@ not_le a b h = false_unless (nat_le a b) (λ e. let l = leb-true a b e in absurd
 
 not_eq : (a b : ℕ) → a < b → (a == b) ≡ false
 not_eq a b h = false_unless (a == b) (λ e. let l : a ≡ b = eqb-true a b e in absurd (omega arith))
+
+-- ---- what keeps a command from a section, by the steps of the two
+
+module _ (other has over : Bool) where
+  by_earlier : {same sooner clear cleared : Bool} → same ≡ false → sooner ≡ true → clear ≡ cleared → (other && ((has && same) || (over && sooner && not clear))) ≡ (other && over && not cleared)
+  by_earlier {same} {sooner} {clear} {cleared} e f k =
+      ap₂ (λ a b. other && ((has && a) || (over && b && not clear))) e f ∙ ap (λ a. other && ((has && false) || (over && true && not a))) k ∙ go other has over
+    where
+      go : (o h v : Bool) → (o && ((h && false) || (v && true && not cleared))) ≡ (o && v && not cleared)
+      go true true true = refl
+      go true true false = refl
+      go true false true = refl
+      go true false false = refl
+      go false h v = refl
+
+  module _ (kept : Bool) where
+    by_same : {same sooner : Bool} → same ≡ true → sooner ≡ false → (other && ((has && same) || (over && sooner && kept))) ≡ (other && has)
+    by_same e f = ap₂ (λ a b. other && ((has && a) || (over && b && kept))) e f ∙ ap (λ a. other && a) (go has over)
+      where
+        go : (h v : Bool) → ((h && true) || (v && false && kept)) ≡ h
+        go true v = refl
+        go false true = refl
+        go false false = refl
+
+    by_later : {same sooner : Bool} → same ≡ false → sooner ≡ false → (other && ((has && same) || (over && sooner && kept))) ≡ false
+    by_later e f = ap₂ (λ a b. other && ((has && a) || (over && b && kept))) e f ∙ go other has over
+      where
+        go : (o h v : Bool) → (o && ((h && false) || (v && false && kept))) ≡ false
+        go true true true = refl
+        go true true false = refl
+        go true false true = refl
+        go true false false = refl
+        go false h v = refl
 
 module _ (d : Station) (routes : List Route) (plan : List (List Command)) (named : names_only d routes plan ≡ true) (paths : list_all (λ t. is_path (train_of d t) (path_routes routes plan t)) (trains d) ≡ true) where
   -- ---- what a train is given from one of its commands on
@@ -141,19 +174,17 @@ module _ (d : Station) (routes : List Route) (plan : List (List Command)) (named
     earlier_keeps z =
         let here = first_step prefix mid s (step ∷ after) split e m in
         let there = last_step in
-        ap (λ b. not (is_train e.train c.train) && has_section (route_at routes e.route) z && (b || (nat_lt (step_of plan e) (step_of plan c) && not (can_clear d routes plan e c z)))) (not_eq (step_of plan e) (step_of plan c) (omega arith))
-        ∙ ap (λ b. not (is_train e.train c.train) && has_section (route_at routes e.route) z && (b && not (can_clear d routes plan e c z))) (le-leb (suc (step_of plan e)) (step_of plan c) (omega arith))
-        ∙ ap (λ b. not (is_train e.train c.train) && has_section (route_at routes e.route) z && not b) (clears_there z)
+        by_earlier (not (is_train e.train c.train)) (has_section (route_at routes e.route) z) (goes_over (route_at routes e.route) z)
+        (not_eq (step_of plan e) (step_of plan c) (omega arith)) (le-leb (suc (step_of plan e)) (step_of plan c) (omega arith)) (clears_there z)
 
   -- ---- the step itself, and those behind it
 
-  same_keeps : (prefix : List (List Command)) (step : List Command) (after : List (List Command)) → plan ≡ prefix ++ step ∷ after → (e c : Command) (z : SectionNo) → In e step → In c step → 1 ≤ train_length d e.train → keeps_from d routes plan c z e ≡ stops d routes [] c.train z e
-  same_keeps prefix step after split e c z m n long =
+  same_keeps : (prefix : List (List Command)) (step : List Command) (after : List (List Command)) → plan ≡ prefix ++ step ∷ after → (e c : Command) (z : SectionNo) → In e step → In c step → keeps_from d routes plan c z e ≡ takes routes c.train z e
+  same_keeps prefix step after split e c z m n =
       let here = step_is d routes plan named paths prefix step after e split m in
       let there = step_is d routes plan named paths prefix step after c split n in
-      let needs : nat_le (release_offset (route_at routes e.route) z + train_length d e.train) 0 ≡ false = not_le (release_offset (route_at routes e.route) z + train_length d e.train) 0 (omega arith) in
-      ap (λ b. not (is_train e.train c.train) && has_section (route_at routes e.route) z && (b || (nat_lt (step_of plan e) (step_of plan c) && not (can_clear d routes plan e c z)))) (eq-eqb (step_of plan e) (step_of plan c) (here ∙ sym there))
-      ∙ ap (λ b. not (is_train e.train c.train) && has_section (route_at routes e.route) z && not (b || false)) (sym needs)
+      by_same (not (is_train e.train c.train)) (has_section (route_at routes e.route) z) (goes_over (route_at routes e.route) z) (not (can_clear d routes plan e c z))
+      (eq-eqb (step_of plan e) (step_of plan c) (here ∙ sym there)) (not_less (step_of plan e) (step_of plan c) (omega arith))
 
   later_keeps : (prefix : List (List Command)) (step : List Command) (after : List (List Command)) → plan ≡ prefix ++ step ∷ after → (e c : Command) (z : SectionNo) → In e (commands after) → In c step → keeps_from d routes plan c z e ≡ false
   later_keeps prefix step after split e c z m n =
@@ -163,52 +194,43 @@ module _ (d : Station) (routes : List Route) (plan : List (List Command)) (named
       let size = length-append prefix (step ∷ []) in
       let there = step_is d routes plan named paths prefix step after c split n in
       let apart : (step_of plan e == step_of plan c) ≡ false = false_unless (step_of plan e == step_of plan c) (λ h. let l : step_of plan e ≡ step_of plan c = eqb-true (step_of plan e) (step_of plan c) h in absurd (omega arith)) in
-      ap (λ b. not (is_train e.train c.train) && has_section (route_at routes e.route) z && (b || (nat_lt (step_of plan e) (step_of plan c) && not (can_clear d routes plan e c z)))) apart
-      ∙ ap (λ b. not (is_train e.train c.train) && has_section (route_at routes e.route) z && (b && not (can_clear d routes plan e c z))) (not_less (step_of plan e) (step_of plan c) (omega arith))
-      ∙ last (not (is_train e.train c.train) && has_section (route_at routes e.route) z)
-    where
-      last : (a : Bool) → (a && false) ≡ false
-      last true = refl
-      last false = refl
+      by_later (not (is_train e.train c.train)) (has_section (route_at routes e.route) z) (goes_over (route_at routes e.route) z) (not (can_clear d routes plan e c z))
+      apart (not_less (step_of plan e) (step_of plan c) (omega arith))
 
   -- ---- all that keep a command from a section
 
-  module _ (long : (t : TrainNo) → IsTrain d t → 1 ≤ train_length d t) where
-    kept_is : (prefix before : List (List Command)) (step : List Command) (after : List (List Command)) → plan ≡ prefix ++ (before ++ step ∷ after) → (c : Command) (z : SectionNo) → In c step
-        → list_any (keeps_from d routes plan c z) (commands (before ++ step ∷ after)) ≡ is_stopped d routes c.train z before step
-    kept_is prefix [] step after split c z n =
-        list_any-append (keeps_from d routes plan c z) step (commands after)
-        ∙ ap (λ b. list_any (keeps_from d routes plan c z) step || b) (any_none (keeps_from d routes plan c z) (commands after) (λ e m. later_keeps prefix step after split e c z m n))
-        ∙ right (list_any (keeps_from d routes plan c z) step)
-        ∙ any_same (keeps_from d routes plan c z) (stops d routes [] c.train z) step (λ e m. same_keeps prefix step after split e c z m n (long e.train (train_there e m)))
-      where
-        right : (a : Bool) → (a || false) ≡ a
-        right true = refl
-        right false = refl
+  kept_is : (prefix before : List (List Command)) (step : List Command) (after : List (List Command)) → plan ≡ prefix ++ (before ++ step ∷ after) → (c : Command) (z : SectionNo) → In c step
+      → list_any (keeps_from d routes plan c z) (commands (before ++ step ∷ after)) ≡ is_stopped d routes c.train z before step
+  kept_is prefix [] step after split c z n =
+      list_any-append (keeps_from d routes plan c z) step (commands after)
+      ∙ ap (λ b. list_any (keeps_from d routes plan c z) step || b) (any_none (keeps_from d routes plan c z) (commands after) (λ e m. later_keeps prefix step after split e c z m n))
+      ∙ right (list_any (keeps_from d routes plan c z) step)
+      ∙ any_same (keeps_from d routes plan c z) (takes routes c.train z) step (λ e m. same_keeps prefix step after split e c z m n)
+    where
+      right : (a : Bool) → (a || false) ≡ a
+      right true = refl
+      right false = refl
+  kept_is prefix (s ∷ ss) step after split c z n =
+      list_any-append (keeps_from d routes plan c z) s (commands (ss ++ step ∷ after))
+      ∙ ap (λ b. b || list_any (keeps_from d routes plan c z) (commands (ss ++ step ∷ after))) (any_same (keeps_from d routes plan c z) (stops d routes (s ∷ ss) c.train z) s (λ e m. earlier_keeps prefix ss s step after split e c m n z))
+      ∙ ap (λ b. list_any (stops d routes (s ∷ ss) c.train z) s || b) (kept_is (prefix ++ s ∷ []) ss step after (split ∙ sym (append_assoc prefix (s ∷ []) (ss ++ step ∷ after))) c z n)
 
-        train_there : (e : Command) → In e step → IsTrain d e.train
-        train_there e m = its_train d routes e (list_all_at (is_of d routes) (commands plan) e named (subst (λ p. In e (commands p)) (sym split) (in_flat_map (λ s. s) (prefix ++ step ∷ after) step e (in_append_right step prefix (step ∷ after) (inl refl)) m)))
-    kept_is prefix (s ∷ ss) step after split c z n =
-        list_any-append (keeps_from d routes plan c z) s (commands (ss ++ step ∷ after))
-        ∙ ap (λ b. b || list_any (keeps_from d routes plan c z) (commands (ss ++ step ∷ after))) (any_same (keeps_from d routes plan c z) (stops d routes (s ∷ ss) c.train z) s (λ e m. earlier_keeps prefix ss s step after split e c m n z))
-        ∙ ap (λ b. list_any (stops d routes (s ∷ ss) c.train z) s || b) (kept_is (prefix ++ s ∷ []) ss step after (split ∙ sym (append_assoc prefix (s ∷ []) (ss ++ step ∷ after))) c z n)
+  -- the places of a step are those found from the steps up to it
+  pub blocked_step : (i : ℕ) (step : List Command) → i < length plan → step ≡ get_or plan i step → flat_map (blocked_in d routes plan (i + 1)) (trains d) ≡ stopped d routes (take i plan) step
+  blocked_step i step h e = joined_same (blocked_in d routes plan (i + 1)) (stopped_in d routes (take i plan) step) (trains d) (λ t m. of_train t)
+    where
+      parts : plan ≡ take i plan ++ step ∷ drop (i + 1) plan
+      parts = sym (take-append-drop i plan) ∙ ap (λ p. take i plan ++ p) (drop_more plan i step h ∙ ap (λ s. s ∷ drop (i + 1) plan) (sym e))
 
-    -- the places of a step are those found from the steps up to it
-    pub blocked_step : (i : ℕ) (step : List Command) → i < length plan → step ≡ get_or plan i step → flat_map (blocked_in d routes plan (i + 1)) (trains d) ≡ stopped d routes (take i plan) step
-    blocked_step i step h e = joined_same (blocked_in d routes plan (i + 1)) (stopped_in d routes (take i plan) step) (trains d) (λ t m. of_train t)
-      where
-        parts : plan ≡ take i plan ++ step ∷ drop (i + 1) plan
-        parts = sym (take-append-drop i plan) ∙ ap (λ p. take i plan ++ p) (drop_more plan i step h ∙ ap (λ s. s ∷ drop (i + 1) plan) (sym e))
+      size : length (take i plan) ≡ i
+      size = length-take-le i plan (omega arith)
 
-        size : length (take i plan) ≡ i
-        size = length-take-le i plan (omega arith)
+      of_command : (c : Command) → In c step → blocked_sections d routes plan c ≡ stopped_sections d routes (take i plan) step c
+      of_command c m = kept_same (λ z. list_any (keeps_from d routes plan c z) (commands plan)) (λ z. is_stopped d routes c.train z (take i plan) step) (sections (route_at routes c.route))
+          (λ z n. ap (λ p. list_any (keeps_from d routes plan c z) (commands p)) parts ∙ kept_is [] (take i plan) step (drop (i + 1) plan) parts c z m)
 
-        of_command : (c : Command) → In c step → blocked_sections d routes plan c ≡ stopped_sections d routes (take i plan) step c
-        of_command c m = kept_same (λ z. list_any (keeps_from d routes plan c z) (commands plan)) (λ z. is_stopped d routes c.train z (take i plan) step) (sections (route_at routes c.route))
-            (λ z n. ap (λ p. list_any (keeps_from d routes plan c z) (commands p)) parts ∙ kept_is [] (take i plan) step (drop (i + 1) plan) parts c z m)
-
-        of_train : (t : TrainNo) → blocked_in d routes plan (i + 1) t ≡ stopped_in d routes (take i plan) step t
-        of_train t =
-            ap (λ s. flat_map (λ c. map (place.Section (i + 1) t) (blocked_sections d routes plan c)) (filter (λ c. is_train c.train t) s)) (entry_read [] plan i step h e)
-            ∙ joined_same (λ c. map (place.Section (i + 1) t) (blocked_sections d routes plan c)) (λ c. map (place.Section (length (take i plan) + 1) t) (stopped_sections d routes (take i plan) step c)) (filter (λ c. is_train c.train t) step)
-            (λ c m. ap (map (place.Section (i + 1) t)) (of_command c (in_filter_back (λ (c : Command). is_train c.train t) step c m).0) ∙ ap (λ k. map (place.Section (k + 1) t) (stopped_sections d routes (take i plan) step c)) (sym size))
+      of_train : (t : TrainNo) → blocked_in d routes plan (i + 1) t ≡ stopped_in d routes (take i plan) step t
+      of_train t =
+          ap (λ s. flat_map (λ c. map (place.Section (i + 1) t) (blocked_sections d routes plan c)) (filter (λ c. is_train c.train t) s)) (entry_read [] plan i step h e)
+          ∙ joined_same (λ c. map (place.Section (i + 1) t) (blocked_sections d routes plan c)) (λ c. map (place.Section (length (take i plan) + 1) t) (stopped_sections d routes (take i plan) step c)) (filter (λ c. is_train c.train t) step)
+          (λ c m. ap (map (place.Section (i + 1) t)) (of_command c (in_filter_back (λ (c : Command). is_train c.train t) step c m).0) ∙ ap (λ k. map (place.Section (k + 1) t) (stopped_sections d routes (take i plan) step c)) (sym size))

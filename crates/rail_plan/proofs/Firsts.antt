@@ -1,5 +1,5 @@
 -- First and last members of lists that are made of others.
-use Rattle.std.proofs.Common.{◌≡◌, ℕ, suc, ◌+◌, ◌-◌, ◌<◌, ◌≤◌, Bool, true, false, cond, List, [], ◌∷◌, ◌++◌, map, filter, flat_map, length, drop, get_or, Option, None, Some, option_map, refl, ap, ◌∙◌, sym, arith, add-one, is_some}
+use Rattle.std.proofs.Common.{◌≡◌, ℕ, suc, ◌+◌, ◌-◌, ◌<◌, ◌≤◌, Bool, true, false, cond, List, [], ◌∷◌, ◌++◌, map, filter, flat_map, length, drop, get_or, Option, None, Some, option_map, refl, ap, ◌∙◌, sym, arith, add-one, is_some, true≢false}
 use Rattle.std.specs.Option.{option_or}
 use Rattle.std.specs.List.{find}
 use Rattle.std.proofs.lemmas.List.{length-map, drop_more, get_or_default}
@@ -7,6 +7,7 @@ use Rattle.rail_base.specs.Numbering.{count_from, one_to, entry, first_of_list}
 use Rattle.rail_base.specs.declared.station.TrainNo.{TrainNo}
 use Rattle.rail_base.specs.declared.route.RouteNo.{RouteNo}
 use Rattle.rail_base.specs.declared.plan.Command.{Command}
+use Rattle.rail_base.proofs.Members.{filter-append}
 use Rattle.rail_spec.specs.Plans.{path, routes_given}
 use Rattle.rail_plan.specs.WellFormed.{last_of_list}
 
@@ -28,6 +29,17 @@ first_found f p xs = first_mapped f (filter p xs) ∙ ap (option_map f) (first_k
 pub first_joined : {X : Type 0} (xs ys : List X) → first_of_list (xs ++ ys) ≡ option_or (first_of_list xs) (first_of_list ys)
 first_joined [] ys = refl
 first_joined (x ∷ xs) ys = refl
+
+-- the first that is kept of a list that goes on is one of its front, or else of what follows
+pub kept_in_front : {X : Type 0} (test : X → Bool) (xs ys : List X) (o : Option X) → o ≡ first_of_list (filter test xs) → is_some o ≡ true → o ≡ first_of_list (filter test (xs ++ ys))
+kept_in_front test xs ys None e s = absurd (true≢false (sym s))
+kept_in_front test xs ys (Some x) e s =
+    ap (λ a. option_or a (first_of_list (filter test ys))) e ∙ sym (first_joined (filter test xs) (filter test ys)) ∙ ap first_of_list (sym (filter-append test xs ys))
+
+pub kept_behind : {X : Type 0} (test : X → Bool) (xs ys : List X) (o p : Option X) → o ≡ first_of_list (filter test xs) → is_some o ≡ false → p ≡ first_of_list (filter test ys) → p ≡ first_of_list (filter test (xs ++ ys))
+kept_behind test xs ys (Some x) p e s f = absurd (true≢false s)
+kept_behind test xs ys None p e s f =
+    f ∙ ap (λ a. option_or a (first_of_list (filter test ys))) e ∙ sym (first_joined (filter test xs) (filter test ys)) ∙ ap first_of_list (sym (filter-append test xs ys))
 
 pub or_joined : {X : Type 0} (a b c : Option X) → option_or (option_or a b) c ≡ option_or a (option_or b c)
 or_joined None b c = refl

@@ -9,7 +9,7 @@ use Rattle.rail_base.specs.declared.route.Route.{Route}
 use Rattle.rail_base.specs.declared.plan.Command.{Command}
 use Rattle.rail_base.specs.Members.{In}
 use Rattle.rail_base.specs.Numbering.{one_to}
-use Rattle.rail_base.specs.Stations.{trains, train_of, train_length, IsTrain}
+use Rattle.rail_base.specs.Stations.{trains, train_of, IsTrain}
 use Rattle.rail_spec.specs.Plans.{is_train, is_path, is_executable, commands, route_at, sections, path_routes}
 use Rattle.rail_spec.specs.Feasible.{is_of, names_only}
 use Rattle.rail_plan.specs.declared.place.PlanPlace.{PlanPlace}
@@ -78,7 +78,7 @@ module _ (d : Station) (routes : List Route) where
 
   -- ---- plans
 
-  module _ (long : (t : TrainNo) → IsTrain d t → 1 ≤ train_length d t) (plan : List (List Command)) (named : names_only d routes plan ≡ true) (paths : list_all (λ t. is_path (train_of d t) (path_routes routes plan t)) (trains d) ≡ true) where
+  module _ (plan : List (List Command)) (named : names_only d routes plan ≡ true) (paths : list_all (λ t. is_path (train_of d t) (path_routes routes plan t)) (trains d) ≡ true) where
     pub free_of_plan : is_executable d routes plan ≡ true → AreFree [] plan
     free_of_plan runs = go [] plan refl
       where
@@ -93,7 +93,7 @@ module _ (d : Station) (routes : List Route) where
             let size : length plan ≡ length before + suc (length ss) = ap length e ∙ length-append before (s ∷ ss) in
             let read : get_or plan (length before) s ≡ s = ap (λ p. get_or p (length before) s) e ∙ get_or_at before s ss s (length before) refl in
             let front : take (length before) plan ≡ before = ap (take (length before)) e ∙ take_at before (s ∷ ss) (length before) refl in
-            let same = blocked_step d routes plan named paths long (length before) s (omega arith) (sym read) in
+            let same = blocked_step d routes plan named paths (length before) s (omega arith) (sym read) in
             ap (λ b. stopped d routes b s) (sym front) ∙ sym same
             ∙ none_joined (λ i. flat_map (blocked_in d routes plan i) (trains d)) (one_to (length plan)) (length before + 1) none (in_one_to (length plan) (length before + 1) (omega arith) (omega arith))
 
@@ -107,7 +107,7 @@ module _ (d : Station) (routes : List Route) where
         none : (j : ℕ) → j < length plan → flat_map (blocked_in d routes plan (j + 1)) (trains d) ≡ []
         none j l =
             let step = get_or plan j [] in
-            blocked_step d routes plan named paths long j step l (get_or_default plan j [] step l)
+            blocked_step d routes plan named paths j step l (get_or_default plan j [] step l)
             ∙ stopped_of_free (take j plan) step (free_at [] plan free j l)
 
         at : (p : PlanPlace) (i : ℕ) → (1 ≤ i) × (i ≤ length plan) → In p (flat_map (blocked_in d routes plan i) (trains d)) → ⊥

@@ -12,10 +12,12 @@ use Rattle.rail_base.specs.declared.route.RouteNo.{RouteNo}
 use Rattle.rail_base.specs.declared.plan.Command.{Command}
 use Rattle.rail_base.specs.Members.{In}
 use Rattle.rail_base.specs.Stations.{train_length}
-use Rattle.rail_spec.specs.Plans.{is_train, route_at, length_mm, has_section, release_offset, exits, path, path_routes, routes_given}
+use Rattle.rail_spec.specs.Plans.{is_train, route_at, length_mm, has_section, goes_over, release_offset, exits, path, path_routes, routes_given}
 use Rattle.rail_plan.specs.Ahead.{clears, stops, is_stopped}
+use Rattle.rail_plan.specs.Holds.{takes}
 use Rattle.rail_base.proofs.Members.{and_both, and_left, and_right, either, false_unless, filter-append, is_false, list_any_from, list_any_gives, or_left, or_right}
 use Rattle.rail_plan.proofs.Blocked.{kept_none}
+use Rattle.rail_plan.proofs.Standing.{over_has}
 
 -- ---- one step
 
@@ -77,9 +79,17 @@ module _ (d : Station) (routes : List Route) where
           or_left (nat_le need (sum_by length_mm (given ++ behind))) (list_any exits (given ++ behind)) (le-leb need (sum_by length_mm (given ++ behind)) (omega arith))
       go (inr k) = or_right (nat_le need (sum_by length_mm (given ++ behind))) (list_any exits (given ++ behind)) (list_any-append exits given behind ∙ or_left (list_any exits given) (list_any exits behind) k)
 
+  -- what stops a train has the section
+  pub stops_takes : (between : List (List Command)) (t : TrainNo) (z : SectionNo) (e : Command) → stops d routes between t z e ≡ true → takes routes t z e ≡ true
+  stops_takes between t z e h =
+      let other = not (is_train e.train t) in
+      let over = goes_over (route_at routes e.route) z in
+      let both = and_left (other && over) (not (clears d routes between e z)) h in
+      and_both other (has_section (route_at routes e.route) z) (and_left other over both) (over_has (route_at routes e.route) z (and_right other over both))
+
   pub stops_less : (more less : List (List Command)) (t : TrainNo) (z : SectionNo) (e : Command) → GivesMore e.train more less → stops d routes more t z e ≡ true → stops d routes less t z e ≡ true
   stops_less more less t z e gives h =
-      let there = not (is_train e.train t) && has_section (route_at routes e.route) z in
+      let there = not (is_train e.train t) && goes_over (route_at routes e.route) z in
       let kept = is_false (clears d routes more e z) (and_right there (not (clears d routes more e z)) h) in
       let kept_before = false_unless (clears d routes less e z) (λ k. true≢false (sym (clears_more more less e z gives k) ∙ kept)) in
       and_both there (not (clears d routes less e z)) (and_left there (not (clears d routes more e z)) h) (ap not kept_before)

@@ -1,5 +1,5 @@
 -- A command that can't join the step before its own is held.
-use Rattle.std.proofs.Common.{◌≡◌, suc, ◌+◌, ◌-◌, ◌≤◌, ◌⊎◌, inl, inr, Bool, true, false, not, ◌&&◌, nat_lt, List, [], ◌∷◌, ◌++◌, length, refl, sym, ap, subst, ◌∙◌, arith, le-leb, true≢false}
+use Rattle.std.proofs.Common.{◌≡◌, suc, ◌+◌, ◌-◌, ◌⊎◌, inl, inr, Bool, true, false, not, ◌&&◌, nat_lt, List, [], ◌∷◌, ◌++◌, length, refl, sym, ap, subst, ◌∙◌, arith, le-leb, true≢false}
 use Rattle.std.specs.Prelude.{is_none}
 use Rattle.std.specs.List.{list_any, list_all}
 use Rattle.std.proofs.lemmas.List.{append_assoc, get_or_at, length-append, length_push}
@@ -10,21 +10,20 @@ use Rattle.rail_base.specs.declared.route.Route.{Route}
 use Rattle.rail_base.specs.declared.plan.Command.{Command}
 use Rattle.rail_base.specs.Members.{In}
 use Rattle.rail_base.specs.Numbering.{entry, first_of_list}
-use Rattle.rail_base.specs.Stations.{trains, train_of, train_length, IsTrain}
-use Rattle.rail_spec.specs.Plans.{is_train, is_path, commands, contend, route_at, path_routes, precedes, sections, has_section, share, shared, step_of}
+use Rattle.rail_base.specs.Stations.{trains, train_of}
+use Rattle.rail_spec.specs.Plans.{is_train, is_path, commands, contend, route_at, path_routes, precedes, sections, has_section, goes_over, share, own_shared, step_of}
 use Rattle.rail_spec.specs.Feasible.{names_only}
 use Rattle.rail_plan.specs.declared.holds.Hold.{Hold}
 use Rattle.rail_plan.specs.Ahead.{clears, stops, is_stopped, stopped_sections}
-use Rattle.rail_plan.specs.Holds.{kept_sections, AreHolds}
-use Rattle.rail_plan.specs.Named.{HaveTrains}
+use Rattle.rail_plan.specs.Holds.{kept_sections, takes, AreHolds}
 use Rattle.rail_plan.specs.Normal.{can_clear_by, excludes, is_held, is_in_the_way}
 use Rattle.rail_plan.specs.Earlier.{can_join}
 use Rattle.rail_base.proofs.Members.{and_both, and_left, and_right, either, false_unless, in_filter, is_false, list_all_at, list_any_from, list_any_gives, or_left, or_right}
 use Rattle.rail_base.proofs.Lists.{in_append_right, in_filter_back, in_flat_map}
 use Rattle.rail_plan.proofs.Blocked.{clears_by}
-use Rattle.rail_plan.proofs.Giving.{any_less}
+use Rattle.rail_plan.proofs.Giving.{any_less, stops_takes}
 use Rattle.rail_plan.proofs.Holding.{held_sections_are, stopped_apart}
-use Rattle.rail_plan.proofs.Standing.{in_shared, shares_it}
+use Rattle.rail_plan.proofs.Standing.{in_own_shared, shares_it}
 use Rattle.rail_plan.proofs.Steps.{step_is}
 
 -- ---- a test of both kinds
@@ -46,7 +45,7 @@ not_both false b h = inr h
 not_in : {X : Type 0} (xs : List X) (x : X) → xs ≡ [] → In x xs → ⊥
 not_in xs x e m = subst (In x) e m
 
-module _ (d : Station) (routes : List Route) (long : (t : TrainNo) → IsTrain d t → 1 ≤ train_length d t) (before : List (List Command)) (last : List Command) (there : HaveTrains d last) (holds : List Hold) (are : AreHolds d routes before holds) (c : Command) where
+module _ (d : Station) (routes : List Route) (before : List (List Command)) (last : List Command) (holds : List Hold) (are : AreHolds d routes before holds) (c : Command) where
   -- a command that can join a step is for none of its trains
   pub joins_own : can_join routes holds last c ≡ true → list_any (λ (e : Command). is_train e.train c.train) last ≡ false
   joins_own h = is_false (list_any (λ (e : Command). is_train e.train c.train) last) (and_left (not (list_any (λ (e : Command). is_train e.train c.train) last)) (is_none (first_of_list (kept_sections routes holds last c))) h)
@@ -56,7 +55,7 @@ module _ (d : Station) (routes : List Route) (long : (t : TrainNo) → IsTrain d
   joins_free h z m = false_unless (is_stopped d routes c.train z before last) (λ k. not_in (stopped_sections d routes before last c) z none (in_filter (λ y. is_stopped d routes c.train y before last) (sections (route_at routes c.route)) z m k))
     where
       none : stopped_sections d routes before last c ≡ []
-      none = sym (held_sections_are d routes long last there before holds are c) ∙ none_first_of (kept_sections routes holds last c) (and_right (not (list_any (λ (e : Command). is_train e.train c.train) last)) (is_none (first_of_list (kept_sections routes holds last c))) h)
+      none = sym (held_sections_are d routes last before holds are c) ∙ none_first_of (kept_sections routes holds last c) (and_right (not (list_any (λ (e : Command). is_train e.train c.train) last)) (is_none (first_of_list (kept_sections routes holds last c))) h)
 
   -- one that can't is for one of its trains, or is stopped
   stays_out : can_join routes holds last c ≡ false → (list_any (λ (e : Command). is_train e.train c.train) last ≡ true) ⊎ ((z : SectionNo) × In z (sections (route_at routes c.route)) × (is_stopped d routes c.train z before last ≡ true))
@@ -64,7 +63,7 @@ module _ (d : Station) (routes : List Route) (long : (t : TrainNo) → IsTrain d
     where
       found : (z : SectionNo) × In z (kept_sections routes holds last c) → (z : SectionNo) × In z (sections (route_at routes c.route)) × (is_stopped d routes c.train z before last ≡ true)
       found (z, m) =
-          let l = in_filter_back (λ y. is_stopped d routes c.train y before last) (sections (route_at routes c.route)) z (subst (In z) (held_sections_are d routes long last there before holds are c) m) in
+          let l = in_filter_back (λ y. is_stopped d routes c.train y before last) (sections (route_at routes c.route)) z (subst (In z) (held_sections_are d routes last before holds are c) m) in
           (z, l.0, l.1)
 
       go : (list_any (λ (e : Command). is_train e.train c.train) last ≡ true) ⊎ (is_none (first_of_list (kept_sections routes holds last c)) ≡ false) → (list_any (λ (e : Command). is_train e.train c.train) last ≡ true) ⊎ ((z : SectionNo) × In z (sections (route_at routes c.route)) × (is_stopped d routes c.train z before last ≡ true))
@@ -112,22 +111,21 @@ module _ (d : Station) (routes : List Route) (plan : List (List Command)) (named
   held_by_own h = held_by_last (any_less (λ (e : Command). is_train e.train c.train) (excludes routes c) last (λ e k l. or_left (is_train e.train c.train) (contend routes e c) l) h)
 
   module _ (z : SectionNo) (k : In z (sections (route_at routes c.route))) where
-    -- what stops it contends with it
-    contends : (e : Command) (between : List (List Command)) → stops d routes between c.train z e ≡ true → contend routes e c ≡ true
-    contends e between h =
-        let both = and_left (not (is_train e.train c.train) && has_section (route_at routes e.route) z) (not (clears d routes between e z)) h in
-        and_both (not (is_train e.train c.train)) (share (route_at routes e.route) (route_at routes c.route))
-        (and_left (not (is_train e.train c.train)) (has_section (route_at routes e.route) z) both)
-        (shares_it (route_at routes e.route) (route_at routes c.route) z (and_right (not (is_train e.train c.train)) (has_section (route_at routes e.route) z) both) k)
+    -- a command of another train with the section contends with it
+    contends : (e : Command) → takes routes c.train z e ≡ true → contend routes e c ≡ true
+    contends e h =
+        let other = not (is_train e.train c.train) in
+        let has = has_section (route_at routes e.route) z in
+        and_both other (share (route_at routes e.route) (route_at routes c.route)) (and_left other has h) (shares_it (route_at routes e.route) (route_at routes c.route) z (and_right other has h) k)
 
-    held_by_contending : list_any (stops d routes [] c.train z) last ≡ true → is_held d routes plan c ≡ true
-    held_by_contending h = held_by_last (any_less (stops d routes [] c.train z) (excludes routes c) last (λ e n l. or_right (is_train e.train c.train) (contend routes e c) (contends e [] l)) h)
+    held_by_contending : list_any (takes routes c.train z) last ≡ true → is_held d routes plan c ≡ true
+    held_by_contending h = held_by_last (any_less (takes routes c.train z) (excludes routes c) last (λ e n l. or_right (is_train e.train c.train) (contend routes e c) (contends e l)) h)
 
     held_by_earlier : Stopper d routes c.train z before → is_held d routes plan c ≡ true
     held_by_earlier (xs, s, ss, e, parts, n, h) =
         or_right (list_any (excludes routes c) (entry [] plan (step_of plan c - 1))) (list_any (is_in_the_way d routes plan (step_of plan c - 1) c) (commands plan))
         (list_any_from (is_in_the_way d routes plan (step_of plan c - 1) c) (commands plan) e there
-        (and_both (precedes routes plan e c) (not (list_all (can_clear_by d routes plan (step_of plan c - 1) e) (shared (route_at routes e.route) (route_at routes c.route)))) sooner (ap not kept)))
+        (and_both (precedes routes plan e c) (not (list_all (can_clear_by d routes plan (step_of plan c - 1) e) (own_shared (route_at routes e.route) (route_at routes c.route)))) sooner (ap not kept)))
       where
         whole : plan ≡ xs ++ ((s ∷ ss) ++ last ∷ step ∷ after)
         whole = split ∙ ap (λ p. p ++ last ∷ step ∷ after) parts ∙ append_assoc xs (s ∷ ss) (last ∷ step ∷ after)
@@ -142,30 +140,30 @@ module _ (d : Station) (routes : List Route) (plan : List (List Command)) (named
         its_step = step_is d routes plan named paths xs s (ss ++ last ∷ step ∷ after) e whole n
 
         sooner : precedes routes plan e c ≡ true
-        sooner = and_both (contend routes e c) (nat_lt (step_of plan e) (step_of plan c)) (contends e (s ∷ ss) h) (le-leb (suc (step_of plan e)) (step_of plan c) (let a = its_step in let b = own_step in let l = size in omega arith))
+        sooner = and_both (contend routes e c) (nat_lt (step_of plan e) (step_of plan c)) (contends e (stops_takes d routes (s ∷ ss) c.train z e h)) (le-leb (suc (step_of plan e)) (step_of plan c) (let a = its_step in let b = own_step in let l = size in omega arith))
 
         uncleared : can_clear_by d routes plan (step_of plan c - 1) e z ≡ false
         uncleared =
             let number : step_of plan c - 1 ≡ length xs + suc (length ss) + 1 = (let b = own_step in let l = size in omega arith) in
             ap (λ i. can_clear_by d routes plan i e z) number ∙ clears_by d routes plan named paths xs ss s (last ∷ step ∷ after) whole e n z
-            ∙ is_false (clears d routes (s ∷ ss) e z) (and_right (not (is_train e.train c.train) && has_section (route_at routes e.route) z) (not (clears d routes (s ∷ ss) e z)) h)
+            ∙ is_false (clears d routes (s ∷ ss) e z) (and_right (not (is_train e.train c.train) && goes_over (route_at routes e.route) z) (not (clears d routes (s ∷ ss) e z)) h)
 
-        has : has_section (route_at routes e.route) z ≡ true
-        has = and_right (not (is_train e.train c.train)) (has_section (route_at routes e.route) z) (and_left (not (is_train e.train c.train) && has_section (route_at routes e.route) z) (not (clears d routes (s ∷ ss) e z)) h)
+        over : goes_over (route_at routes e.route) z ≡ true
+        over = and_right (not (is_train e.train c.train)) (goes_over (route_at routes e.route) z) (and_left (not (is_train e.train c.train) && goes_over (route_at routes e.route) z) (not (clears d routes (s ∷ ss) e z)) h)
 
-        kept : list_all (can_clear_by d routes plan (step_of plan c - 1) e) (shared (route_at routes e.route) (route_at routes c.route)) ≡ false
-        kept = false_unless (list_all (can_clear_by d routes plan (step_of plan c - 1) e) (shared (route_at routes e.route) (route_at routes c.route))) (λ a.
-            true≢false (sym (list_all_at (can_clear_by d routes plan (step_of plan c - 1) e) (shared (route_at routes e.route) (route_at routes c.route)) z a (in_shared (route_at routes e.route) (route_at routes c.route) z has k)) ∙ uncleared))
+        kept : list_all (can_clear_by d routes plan (step_of plan c - 1) e) (own_shared (route_at routes e.route) (route_at routes c.route)) ≡ false
+        kept = false_unless (list_all (can_clear_by d routes plan (step_of plan c - 1) e) (own_shared (route_at routes e.route) (route_at routes c.route))) (λ a.
+            true≢false (sym (list_all_at (can_clear_by d routes plan (step_of plan c - 1) e) (own_shared (route_at routes e.route) (route_at routes c.route)) z a (in_own_shared (route_at routes e.route) (route_at routes c.route) z over k)) ∙ uncleared))
 
     pub held_by_stop : is_stopped d routes c.train z before last ≡ true → is_held d routes plan c ≡ true
-    held_by_stop h = go (either (is_stopped d routes c.train z before []) (list_any (stops d routes [] c.train z) last) (sym (stopped_apart d routes c.train z before last) ∙ h))
+    held_by_stop h = go (either (is_stopped d routes c.train z before []) (list_any (takes routes c.train z) last) (sym (stopped_apart d routes c.train z before last) ∙ h))
       where
-        go : (is_stopped d routes c.train z before [] ≡ true) ⊎ (list_any (stops d routes [] c.train z) last ≡ true) → is_held d routes plan c ≡ true
+        go : (is_stopped d routes c.train z before [] ≡ true) ⊎ (list_any (takes routes c.train z) last ≡ true) → is_held d routes plan c ≡ true
         go (inl l) = held_by_earlier (stopper d routes c.train z before l)
         go (inr l) = held_by_contending l
 
-  pub held_outside : (long : (t : TrainNo) → IsTrain d t → 1 ≤ train_length d t) → HaveTrains d last → (holds : List Hold) → AreHolds d routes before holds → can_join routes holds last c ≡ false → is_held d routes plan c ≡ true
-  held_outside long there holds are h = go (stays_out d routes long before last there holds are c h)
+  pub held_outside : (holds : List Hold) → AreHolds d routes before holds → can_join routes holds last c ≡ false → is_held d routes plan c ≡ true
+  held_outside holds are h = go (stays_out d routes before last holds are c h)
     where
       go : (list_any (λ (e : Command). is_train e.train c.train) last ≡ true) ⊎ ((z : SectionNo) × In z (sections (route_at routes c.route)) × (is_stopped d routes c.train z before last ≡ true)) → is_held d routes plan c ≡ true
       go (inl k) = held_by_own k

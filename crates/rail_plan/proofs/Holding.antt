@@ -1,5 +1,5 @@
 -- The holds say what keeps a command from a section: where no command was blocked, one train at most can't leave it.
-use Rattle.std.proofs.Common.{◌≡◌, ℕ, ◌+◌, ◌≤◌, ◌<◌, ◌⊎◌, inl, inr, max, Bool, true, false, not, ◌&&◌, ◌||◌, ◌==◌, nat_le, if◌then◌else◌, List, [], ◌∷◌, ◌++◌, map, refl, sym, ap, ap₂, subst, ◌∙◌, arith, leb-true, eqb-true, eq-eqb, true≢false}
+use Rattle.std.proofs.Common.{◌≡◌, ℕ, ◌+◌, ◌≤◌, ◌<◌, ◌⊎◌, inl, inr, max, Bool, true, false, not, ◌&&◌, ◌||◌, ◌==◌, if◌then◌else◌, List, [], ◌∷◌, ◌++◌, map, refl, sym, ap, ap₂, subst, ◌∙◌, arith, eqb-true, eq-eqb, true≢false}
 use Rattle.std.specs.List.{list_any}
 use Rattle.std.proofs.lemmas.List.{append-nil, map-append}
 use Rattle.std.proofs.lemmas.List.Concat.{flat_map-append}
@@ -9,16 +9,14 @@ use Rattle.rail_base.specs.declared.station.TrainNo.{TrainNo}
 use Rattle.rail_base.specs.declared.route.Route.{Route}
 use Rattle.rail_base.specs.declared.plan.Command.{Command}
 use Rattle.rail_base.specs.Members.{In}
-use Rattle.rail_base.specs.Stations.{train_length, IsTrain}
-use Rattle.rail_spec.specs.Plans.{is_train, route_at, sections, has_section, release_offset, path, path_routes, routes_given}
+use Rattle.rail_base.specs.Stations.{train_length}
+use Rattle.rail_spec.specs.Plans.{is_train, route_at, sections, goes_over, release_offset, path, path_routes, routes_given}
 use Rattle.rail_plan.specs.declared.holds.Hold.{Hold}
 use Rattle.rail_plan.specs.Ahead.{clears, stops, is_stopped, stopped_sections}
 use Rattle.rail_plan.specs.Holds.{rest_after, hold_at, keeps_out, lacks, takes, is_kept_from, kept_sections, lack_of, lack_in, lack, AreHolds}
-use Rattle.rail_plan.specs.Named.{HaveTrains}
 use Rattle.rail_base.proofs.Members.{and_left, and_right, and_both, below_or_not, either, false_unless, is_false, list_any_gives, or_left, or_right, same_bool}
 use Rattle.rail_laws.proofs.Given.{same_train}
-use Rattle.rail_plan.proofs.Blocked.{any_same, kept_same}
-use Rattle.rail_plan.proofs.Named.{all_in}
+use Rattle.rail_plan.proofs.Blocked.{kept_same}
 use Rattle.rail_plan.proofs.Resting.{rest_is, rest_max, rest_more, rest_none}
 
 -- ---- numbers and tests
@@ -51,7 +49,7 @@ or_apart false b h = (refl, h)
 
 module _ (d : Station) (routes : List Route) (z : SectionNo) (t : TrainNo) where
   of_more : (given more : List Route) (e : Command) → lack_of d routes z t (given ++ more) e ≡ rest_after (lack_of d routes z t given e) more
-  of_more given more e = go (is_train e.train t && has_section (route_at routes e.route) z)
+  of_more given more e = go (is_train e.train t && goes_over (route_at routes e.route) z)
     where
       need : ℕ
       need = release_offset (route_at routes e.route) z + train_length d t
@@ -91,11 +89,11 @@ module _ (d : Station) (routes : List Route) (z : SectionNo) (t : TrainNo) where
 -- ---- a train is stopped by those before it exactly where another one lacks track
 
 -- the step itself is looked at last
-pub stopped_apart : (d : Station) (routes : List Route) (t : TrainNo) (z : SectionNo) (before : List (List Command)) (step : List Command) → is_stopped d routes t z before step ≡ (is_stopped d routes t z before [] || list_any (stops d routes [] t z) step)
+pub stopped_apart : (d : Station) (routes : List Route) (t : TrainNo) (z : SectionNo) (before : List (List Command)) (step : List Command) → is_stopped d routes t z before step ≡ (is_stopped d routes t z before [] || list_any (takes routes t z) step)
 stopped_apart d routes t z [] step = refl
 stopped_apart d routes t z (s ∷ ss) step = go (list_any (stops d routes (s ∷ ss) t z) s) (stopped_apart d routes t z ss step)
   where
-    go : (b : Bool) → is_stopped d routes t z ss step ≡ (is_stopped d routes t z ss [] || list_any (stops d routes [] t z) step) → (b || is_stopped d routes t z ss step) ≡ ((b || is_stopped d routes t z ss []) || list_any (stops d routes [] t z) step)
+    go : (b : Bool) → is_stopped d routes t z ss step ≡ (is_stopped d routes t z ss [] || list_any (takes routes t z) step) → (b || is_stopped d routes t z ss step) ≡ ((b || is_stopped d routes t z ss []) || list_any (takes routes t z) step)
     go true e = refl
     go false e = e
 
@@ -104,14 +102,14 @@ module _ (d : Station) (routes : List Route) (t : TrainNo) (z : SectionNo) where
   lack_there : (between : List (List Command)) (e : Command) → stops d routes between t z e ≡ true → (is_train e.train t ≡ false) × (0 < lack_of d routes z e.train (path_routes routes between e.train) e)
   lack_there between e h =
       let r = route_at routes e.route in
-      let prefix = and_left (not (is_train e.train t) && has_section r z) (not (clears d routes between e z)) h in
-      let has = and_right (not (is_train e.train t)) (has_section r z) prefix in
-      let kept : clears d routes between e z ≡ false = is_false (clears d routes between e z) (and_right (not (is_train e.train t) && has_section r z) (not (clears d routes between e z)) h) in
+      let prefix = and_left (not (is_train e.train t) && goes_over r z) (not (clears d routes between e z)) h in
+      let has = and_right (not (is_train e.train t)) (goes_over r z) prefix in
+      let kept : clears d routes between e z ≡ false = is_false (clears d routes between e z) (and_right (not (is_train e.train t) && goes_over r z) (not (clears d routes between e z)) h) in
       let need = release_offset r z + train_length d e.train in
       let given = path_routes routes between e.train in
       let left : 0 < rest_after need given = some (rest_after need given) (rest_is need given ∙ kept) in
-      let both : (is_train e.train e.train && has_section r z) ≡ true = and_both (is_train e.train e.train) (has_section r z) (is_own e.train) has in
-      (is_false (is_train e.train t) (and_left (not (is_train e.train t)) (has_section r z) prefix), subst (λ n. 0 < n) (sym (ap (λ b. if b then rest_after need given else 0) both)) left)
+      let both : (is_train e.train e.train && goes_over r z) ≡ true = and_both (is_train e.train e.train) (goes_over r z) (is_own e.train) has in
+      (is_false (is_train e.train t) (and_left (not (is_train e.train t)) (goes_over r z) prefix), subst (λ n. 0 < n) (sym (ap (λ b. if b then rest_after need given else 0) both)) left)
 
   lack_at : (u : TrainNo) (given : List Route) (es : List Command) (e : Command) → In e es → lack_of d routes z u given e ≤ lack_in d routes z u given es
   lack_at u given [] e m = absurd m
@@ -139,7 +137,7 @@ module _ (d : Station) (routes : List Route) (t : TrainNo) (z : SectionNo) where
   -- and another one that lacks track stops it
   module _ (u : TrainNo) (other : is_train u t ≡ false) where
     stop_of : (between : List (List Command)) (e : Command) → 0 < lack_of d routes z u (path_routes routes between u) e → stops d routes between t z e ≡ true
-    stop_of between e h = go (is_train e.train u) (has_section (route_at routes e.route) z) refl refl h
+    stop_of between e h = go (is_train e.train u) (goes_over (route_at routes e.route) z) refl refl h
       where
         r : Route
         r = route_at routes e.route
@@ -150,11 +148,11 @@ module _ (d : Station) (routes : List Route) (t : TrainNo) (z : SectionNo) where
         kept : e.train ≡ u → 0 < rest_after (need u) (path_routes routes between u) → clears d routes between e z ≡ false
         kept same l = sym (rest_is (need e.train) (path_routes routes between e.train)) ∙ ap (λ v. rest_after (need v) (path_routes routes between v) == 0) same ∙ not_zero (rest_after (need u) (path_routes routes between u)) l
 
-        go : (a b : Bool) → is_train e.train u ≡ a → has_section r z ≡ b → 0 < (if a && b then rest_after (need u) (path_routes routes between u) else 0) → stops d routes between t z e ≡ true
+        go : (a b : Bool) → is_train e.train u ≡ a → goes_over r z ≡ b → 0 < (if a && b then rest_after (need u) (path_routes routes between u) else 0) → stops d routes between t z e ≡ true
         go true true ea eb l =
             let same = same_train e.train u ea in
-            and_both (not (is_train e.train t) && has_section r z) (not (clears d routes between e z))
-            (and_both (not (is_train e.train t)) (has_section r z) (ap (λ v. not (is_train v t)) same ∙ ap not other) eb)
+            and_both (not (is_train e.train t) && goes_over r z) (not (clears d routes between e z))
+            (and_both (not (is_train e.train t)) (goes_over r z) (ap (λ v. not (is_train v t)) same ∙ ap not other) eb)
             (ap not (kept same l))
         go true false ea eb l = absurd (omega arith)
         go false true ea eb l = absurd (omega arith)
@@ -196,31 +194,13 @@ module _ (d : Station) (routes : List Route) (t : TrainNo) (z : SectionNo) where
           let own : lacks h h.train ≡ h.left = ap (λ b. if b then h.left else 0) (is_own h.train) in
           stopped_by h.train other before (subst (λ n. 0 < n) (sym (tells h.train ∙ own)) left)
 
--- ---- a step's own commands
+-- ---- the holds and the step say what stops a train
 
-module _ (d : Station) (routes : List Route) where
-  -- one stops another train in its step wherever it has the section
-  pub here_is : (t : TrainNo) (z : SectionNo) (e : Command) → 1 ≤ train_length d e.train → stops d routes [] t z e ≡ takes routes t z e
-  here_is t z e long =
-      let need = release_offset (route_at routes e.route) z + train_length d e.train in
-      let never : nat_le need 0 ≡ false = false_unless (nat_le need 0) (λ k. let l = leb-true need 0 k in absurd (omega arith)) in
-      ap (λ b. not (is_train e.train t) && has_section (route_at routes e.route) z && not (b || false)) never
-      ∙ all_true (not (is_train e.train t) && has_section (route_at routes e.route) z)
-    where
-      all_true : (a : Bool) → (a && true) ≡ a
-      all_true true = refl
-      all_true false = refl
+module _ (d : Station) (routes : List Route) (step : List Command) (before : List (List Command)) (holds : List Hold) (are : AreHolds d routes before holds) where
+  held_is : (t : TrainNo) (z : SectionNo) → is_kept_from routes holds step t z ≡ is_stopped d routes t z before step
+  held_is t z =
+      sym (stopped_apart d routes t z before step
+      ∙ ap (λ b. b || list_any (takes routes t z) step) (kept_out_is d routes t z before (hold_at holds z) (are.each z)))
 
-  module _ (long : (t : TrainNo) → IsTrain d t → 1 ≤ train_length d t) (step : List Command) (named : HaveTrains d step) where
-    pub takes_is : (t : TrainNo) (z : SectionNo) → list_any (stops d routes [] t z) step ≡ list_any (takes routes t z) step
-    takes_is t z = any_same (stops d routes [] t z) (takes routes t z) step (λ e m. here_is t z e (long e.train (all_in (λ (c : Command). IsTrain d c.train) step e named m)))
-
-    -- the holds and the step say what stops a train
-    held_is : (before : List (List Command)) (holds : List Hold) → AreHolds d routes before holds → (t : TrainNo) (z : SectionNo) → is_kept_from routes holds step t z ≡ is_stopped d routes t z before step
-    held_is before holds are t z =
-        sym (stopped_apart d routes t z before step
-        ∙ ap (λ b. b || list_any (stops d routes [] t z) step) (kept_out_is d routes t z before (hold_at holds z) (are.each z))
-        ∙ ap (λ b. keeps_out (hold_at holds z) t || b) (takes_is t z))
-
-    pub held_sections_are : (before : List (List Command)) (holds : List Hold) → AreHolds d routes before holds → (c : Command) → kept_sections routes holds step c ≡ stopped_sections d routes before step c
-    held_sections_are before holds are c = kept_same (is_kept_from routes holds step c.train) (λ z. is_stopped d routes c.train z before step) (sections (route_at routes c.route)) (λ z m. held_is before holds are c.train z)
+  pub held_sections_are : (c : Command) → kept_sections routes holds step c ≡ stopped_sections d routes before step c
+  held_sections_are c = kept_same (is_kept_from routes holds step c.train) (λ z. is_stopped d routes c.train z before step) (sections (route_at routes c.route)) (λ z m. held_is c.train z)

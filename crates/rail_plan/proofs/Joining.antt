@@ -5,11 +5,9 @@ use Rattle.std.proofs.lemmas.List.{append_assoc, append-nil, drop_more}
 use Rattle.std.proofs.lemmas.List.Concat.{flat_map-append}
 use Rattle.rail_base.specs.declared.station.Station.{Station}
 use Rattle.rail_base.specs.declared.station.SectionNo.{SectionNo}
-use Rattle.rail_base.specs.declared.station.TrainNo.{TrainNo}
 use Rattle.rail_base.specs.declared.route.Route.{Route}
 use Rattle.rail_base.specs.declared.plan.Command.{Command}
 use Rattle.rail_base.specs.Members.{In}
-use Rattle.rail_base.specs.Stations.{train_length, IsTrain}
 use Rattle.rail_spec.specs.Plans.{commands, one_each, step_of}
 use Rattle.rail_spec.specs.Feasible.{IsRunnable}
 use Rattle.rail_plan.specs.declared.holds.Hold.{Hold}
@@ -79,7 +77,7 @@ module _ (routes : List Route) (holds : List Hold) where
               each g (inl same) = ap (can_join routes holds last) (sym same) ∙ e
               each g (inr m) = none g m
 
-module _ (d : Station) (routes : List Route) (long : (t : TrainNo) → IsTrain d t → 1 ≤ train_length d t) (before after : List (List Command)) (holds : List Hold) (are : AreHolds d routes before holds) (n : ℕ) where
+module _ (d : Station) (routes : List Route) (before after : List (List Command)) (holds : List Hold) (are : AreHolds d routes before holds) (n : ℕ) where
   -- the plan with these two steps is as good, and its delay falls by as many as joined
   abbrev Joins : List Command → List Command → List Command → List Command → ℕ → ℕ → Type 0
   Joins last next new left many fewer = IsAsGood d routes (before ++ last ∷ next ∷ after) (before ++ new ∷ left ∷ after) × (delay (before ++ new ∷ left ∷ after) + many ≡ delay (before ++ last ∷ next ∷ after) + fewer)
@@ -89,11 +87,8 @@ module _ (d : Station) (routes : List Route) (long : (t : TrainNo) → IsTrain d
   joins_behind [] last front r = (as_good_itself d routes (before ++ last ∷ (front ++ []) ∷ after), refl)
   joins_behind (c ∷ cs) last front r = go (can_join routes holds last c) refl (joins_behind cs (last ++ c ∷ []) front) (joins_behind cs last (front ++ c ∷ []))
     where
-      there : HaveTrains d last
-      there = step_has_trains d routes n (before ++ last ∷ (front ++ c ∷ cs) ∷ after) r last (in_append_right last before (last ∷ (front ++ c ∷ cs) ∷ after) (inl refl))
-
       moves : can_join routes holds last c ≡ true → IsAsGood d routes (before ++ last ∷ (front ++ c ∷ cs) ∷ after) (before ++ (last ++ c ∷ []) ∷ (front ++ cs) ∷ after)
-      moves e = moved_is_as_good before last front cs c after d routes long n r (joins_own d routes long before last there holds are c e) (joins_free d routes long before last there holds are c e)
+      moves e = moved_is_as_good before last front cs c after d routes n r (joins_own d routes before last holds are c e) (joins_free d routes before last holds are c e)
 
       go : (b : Bool) → can_join routes holds last c ≡ b
           → (IsRunnable d routes n (before ++ (last ++ c ∷ []) ∷ (front ++ cs) ∷ after) → Joins (last ++ c ∷ []) (front ++ cs) (joined routes holds (last ++ c ∷ []) cs) (front ++ left_over routes holds (last ++ c ∷ []) cs) (length cs) (length (left_over routes holds (last ++ c ∷ []) cs)))
@@ -133,7 +128,7 @@ pub record Round (d : Station) (routes : List Route) (plan done : List (List Com
   pub still : is_moved ≡ false → done ++ last ∷ rest ≡ plan
   pub held : is_moved ≡ false → (c : Command) → In c (commands (done ++ last ∷ [])) → 2 ≤ step_of plan c → is_held d routes plan c ≡ true
 
-module _ (d : Station) (routes : List Route) (long : (t : TrainNo) → IsTrain d t → 1 ≤ train_length d t) (n : ℕ) (plan : List (List Command)) (runs : IsRunnable d routes n plan) where
+module _ (d : Station) (routes : List Route) (n : ℕ) (plan : List (List Command)) (runs : IsRunnable d routes n plan) where
   pub round_start : (first : List Command) (others : List (List Command)) (holds : List Hold) → plan ≡ first ∷ others → AreHolds d routes [] holds → Round d routes plan [] first others holds false
   round_start first others holds split are = record {
     good = subst (IsAsGood d routes plan) split (as_good_itself d routes plan);
@@ -157,14 +152,11 @@ module _ (d : Station) (routes : List Route) (long : (t : TrainNo) → IsTrain d
     pub next_has_routes : HaveRoutes routes step
     next_has_routes = step_has_routes d routes n (done ++ last ∷ step ∷ rest) runs_now step (in_append_right step done (last ∷ step ∷ rest) (inr (inl refl)))
 
-    last_has_trains : HaveTrains d last
-    last_has_trains = step_has_trains d routes n (done ++ last ∷ step ∷ rest) runs_now last (in_append_right last done (last ∷ step ∷ rest) (inl refl))
-
     module _ (new left : List Command) (new_is : new ≡ joined routes holds last step) (left_is : left ≡ left_over routes holds last step) where
-      all : Joins d routes long done rest holds round.are n last step new left (length step) (length left)
-      all = subst (λ x. Joins d routes long done rest holds round.are n last step new x (length step) (length x)) (sym left_is)
-          (subst (λ x. Joins d routes long done rest holds round.are n last step x (left_over routes holds last step) (length step) (length (left_over routes holds last step))) (sym new_is)
-          (joins d routes long done rest holds round.are n step last runs_now))
+      all : Joins d routes done rest holds round.are n last step new left (length step) (length left)
+      all = subst (λ x. Joins d routes done rest holds round.are n last step new x (length step) (length x)) (sym left_is)
+          (subst (λ x. Joins d routes done rest holds round.are n last step x (left_over routes holds last step) (length step) (length (left_over routes holds last step))) (sym new_is)
+          (joins d routes done rest holds round.are n step last runs_now))
 
       good_next : IsAsGood d routes plan (done ++ new ∷ left ∷ rest)
       good_next = as_good_both d routes plan (done ++ last ∷ step ∷ rest) (done ++ new ∷ left ∷ rest) round.good all.0
@@ -183,14 +175,14 @@ module _ (d : Station) (routes : List Route) (long : (t : TrainNo) → IsTrain d
 
       -- the holds after the step
       holds_next : (new_holds : List Hold) → length new_holds ≡ length holds → ((z : SectionNo) → hold_at new_holds z ≡ turned d routes z new (hold_at holds z)) → AreHolds d routes (done ++ new ∷ []) new_holds
-      holds_next new_holds many turns = holds_more d routes long done new new_has_trains one (stopped_of_free d routes done new free) holds new_holds round.are many turns
+      holds_next new_holds many turns = holds_more d routes done new new_has_trains one (stopped_of_free d routes done new free) holds new_holds round.are many turns
         where
           one : one_each new ≡ true
           one = list_all_at one_each (done ++ new ∷ left ∷ rest) new (one_each_of d routes (done ++ new ∷ left ∷ rest) n runs_next.well_formed.formed) in_new
 
           free : IsFree d routes done new
           free = (free_back d routes [] done (new ∷ left ∷ rest)
-              (free_of_plan d routes long (done ++ new ∷ left ∷ rest) runs_next.well_formed.named (paths_of_formed d routes (done ++ new ∷ left ∷ rest) n runs_next.well_formed.formed) runs_next.executable)).0
+              (free_of_plan d routes (done ++ new ∷ left ∷ rest) runs_next.well_formed.named (paths_of_formed d routes (done ++ new ∷ left ∷ rest) n runs_next.well_formed.formed) runs_next.executable)).0
 
       same_plan : (done ++ new ∷ []) ++ left ∷ rest ≡ done ++ new ∷ left ∷ rest
       same_plan = append_assoc done (new ∷ []) (left ∷ rest)
@@ -210,7 +202,7 @@ module _ (d : Station) (routes : List Route) (long : (t : TrainNo) → IsTrain d
             go (inl k) = round.held e c (subst (λ x. In c (commands (done ++ x ∷ []))) (new_is ∙ nothing.0) k) l
             go (inr k) =
                 let there : In c step = subst (In c) (append-nil left ∙ left_is ∙ nothing.1) k in
-                held_outside d routes plan runs.well_formed.named (paths_of_formed d routes plan n runs.well_formed.formed) done last step rest (sym (round.still e)) c there long last_has_trains holds round.are (nothing.2 c there)
+                held_outside d routes plan runs.well_formed.named (paths_of_formed d routes plan n runs.well_formed.formed) done last step rest (sym (round.still e)) c there holds round.are (nothing.2 c there)
 
       pub round_on : (new_holds : List Hold) (has_moved : Bool) → length new_holds ≡ length holds → ((z : SectionNo) → hold_at new_holds z ≡ turned d routes z new (hold_at holds z))
           → ((length left < length step) × (has_moved ≡ true)) ⊎ ((length step ≤ length left) × (has_moved ≡ is_moved)) → Round d routes plan (done ++ new ∷ []) left rest new_holds has_moved

@@ -11,19 +11,20 @@ use Rattle.rail_base.specs.declared.route.Route.{Route}
 use Rattle.rail_base.specs.declared.route.RouteNo.{RouteNo}
 use Rattle.rail_base.specs.declared.plan.Command.{Command}
 use Rattle.rail_base.specs.Members.{In, all_pairs}
-use Rattle.rail_base.specs.Stations.{trains, train_of, train_length, IsTrain}
+use Rattle.rail_base.specs.Stations.{trains, train_of}
 use Rattle.rail_spec.specs.Plans.{is_train, is_route, is_command, is_path, commands, contend, one_each, route_at, routes_given, path, path_routes, precedes, sections, has_section, share, step_of}
 use Rattle.rail_spec.specs.Feasible.{is_of, names_only, IsRunnable, IsWellFormed}
-use Rattle.rail_plan.specs.Ahead.{clears, stops, is_stopped}
+use Rattle.rail_plan.specs.Ahead.{stops, is_stopped}
+use Rattle.rail_plan.specs.Holds.{takes}
 use Rattle.rail_plan.specs.Earlier.{delay, IsAsGood}
 use Rattle.rail_base.proofs.Members.{and_both, and_left, and_right, below_or_not, either, false_unless, is_false, list_all_at, list_any_from, list_any_gives, or_left, or_right, same_bool}
-use Rattle.rail_base.proofs.Lists.{in_append, in_append_left, in_append_right, in_flat_map, list_all_from}
+use Rattle.rail_base.proofs.Lists.{in_append, in_append_left, in_append_right, list_all_from}
+use Rattle.rail_base.proofs.Sharing.{has_when_in, in_sections}
 use Rattle.rail_laws.proofs.Given.{same_route, same_train, step_some}
 use Rattle.rail_plan.proofs.Free.{AreFree, IsFree, free_back, free_both, free_front, free_of_plan, plan_of_free}
-use Rattle.rail_plan.proofs.Giving.{given_joined, gives_none, gives_same, stopped_behind, stops_less, GivesMore}
-use Rattle.rail_plan.proofs.Holding.{here_is, stopped_apart}
-use Rattle.rail_plan.proofs.Named.{its_train}
-use Rattle.rail_plan.proofs.Standing.{has_its_section, its_section, one_shared}
+use Rattle.rail_plan.proofs.Giving.{given_joined, gives_none, gives_same, stopped_behind, stops_less, stops_takes, GivesMore}
+use Rattle.rail_plan.proofs.Holding.{stopped_apart}
+use Rattle.rail_plan.proofs.Standing.{one_shared}
 use Rattle.rail_plan.proofs.Steps.{all_pairs_across, step_is}
 use Rattle.rail_plan.proofs.WellFormed.{one_each_of, paths_of_formed}
 
@@ -202,9 +203,6 @@ module _ (before : List (List Command)) (s xs ys : List Command) (c : Command) (
     -- ---- what is stopped
 
     module _ (d : Station) (routes : List Route) where
-      stops_fewer : (t : TrainNo) (z : SectionNo) (e : Command) (between : List (List Command)) → stops d routes between t z e ≡ true → stops d routes [] t z e ≡ true
-      stops_fewer t z e between h = stops_less d routes between [] t z e (path between e.train, refl) h
-
       -- in c's old step
       next_stopped : (t : TrainNo) (z : SectionNo) → is_stopped d routes t z (before ++ (s ++ c ∷ []) ∷ []) (xs ++ ys) ≡ true → is_stopped d routes t z (before ++ s ∷ []) (xs ++ c ∷ ys) ≡ true
       next_stopped t z h = stopped_behind d routes t z before ((s ++ c ∷ []) ∷ []) (s ∷ []) (xs ++ ys) (xs ++ c ∷ ys) gives base h
@@ -212,26 +210,26 @@ module _ (before : List (List Command)) (s xs ys : List Command) (c : Command) (
           gives : (u : TrainNo) → GivesMore u ((s ++ c ∷ []) ∷ []) (s ∷ [])
           gives u = (routes_given u (c ∷ []), append-nil (routes_given u (s ++ c ∷ [])) ∙ given_joined u s (c ∷ []) ∙ ap (λ rs. rs ++ routes_given u (c ∷ [])) (sym (append-nil (routes_given u s))))
 
-          inside : (e : Command) → In e (s ++ c ∷ []) → stops d routes ((s ++ c ∷ []) ∷ []) t z e ≡ true → (list_any (stops d routes (s ∷ []) t z) s || list_any (stops d routes [] t z) (xs ++ c ∷ ys)) ≡ true
+          inside : (e : Command) → In e (s ++ c ∷ []) → stops d routes ((s ++ c ∷ []) ∷ []) t z e ≡ true → (list_any (stops d routes (s ∷ []) t z) s || list_any (takes routes t z) (xs ++ c ∷ ys)) ≡ true
           inside e m k = go (in_append e s (c ∷ []) m)
             where
-              go : In e s ⊎ In e (c ∷ []) → (list_any (stops d routes (s ∷ []) t z) s || list_any (stops d routes [] t z) (xs ++ c ∷ ys)) ≡ true
-              go (inl n) = or_left (list_any (stops d routes (s ∷ []) t z) s) (list_any (stops d routes [] t z) (xs ++ c ∷ ys)) (list_any_from (stops d routes (s ∷ []) t z) s e n (stops_less d routes ((s ++ c ∷ []) ∷ []) (s ∷ []) t z e (gives e.train) k))
-              go (inr (inl n)) = or_right (list_any (stops d routes (s ∷ []) t z) s) (list_any (stops d routes [] t z) (xs ++ c ∷ ys)) (list_any_from (stops d routes [] t z) (xs ++ c ∷ ys) e (subst (λ x. In x (xs ++ c ∷ ys)) n (in_append_right c xs (c ∷ ys) (inl refl))) (stops_fewer t z e ((s ++ c ∷ []) ∷ []) k))
+              go : In e s ⊎ In e (c ∷ []) → (list_any (stops d routes (s ∷ []) t z) s || list_any (takes routes t z) (xs ++ c ∷ ys)) ≡ true
+              go (inl n) = or_left (list_any (stops d routes (s ∷ []) t z) s) (list_any (takes routes t z) (xs ++ c ∷ ys)) (list_any_from (stops d routes (s ∷ []) t z) s e n (stops_less d routes ((s ++ c ∷ []) ∷ []) (s ∷ []) t z e (gives e.train) k))
+              go (inr (inl n)) = or_right (list_any (stops d routes (s ∷ []) t z) s) (list_any (takes routes t z) (xs ++ c ∷ ys)) (list_any_from (takes routes t z) (xs ++ c ∷ ys) e (subst (λ x. In x (xs ++ c ∷ ys)) n (in_append_right c xs (c ∷ ys) (inl refl))) (stops_takes d routes ((s ++ c ∷ []) ∷ []) t z e k))
               go (inr (inr n)) = absurd n
 
-          base : (list_any (stops d routes ((s ++ c ∷ []) ∷ []) t z) (s ++ c ∷ []) || list_any (stops d routes [] t z) (xs ++ ys)) ≡ true → (list_any (stops d routes (s ∷ []) t z) s || list_any (stops d routes [] t z) (xs ++ c ∷ ys)) ≡ true
-          base k = go (either (list_any (stops d routes ((s ++ c ∷ []) ∷ []) t z) (s ++ c ∷ [])) (list_any (stops d routes [] t z) (xs ++ ys)) k)
+          base : (list_any (stops d routes ((s ++ c ∷ []) ∷ []) t z) (s ++ c ∷ []) || list_any (takes routes t z) (xs ++ ys)) ≡ true → (list_any (stops d routes (s ∷ []) t z) s || list_any (takes routes t z) (xs ++ c ∷ ys)) ≡ true
+          base k = go (either (list_any (stops d routes ((s ++ c ∷ []) ∷ []) t z) (s ++ c ∷ [])) (list_any (takes routes t z) (xs ++ ys)) k)
             where
-              found : (e : Command) × In e (s ++ c ∷ []) × (stops d routes ((s ++ c ∷ []) ∷ []) t z e ≡ true) → (list_any (stops d routes (s ∷ []) t z) s || list_any (stops d routes [] t z) (xs ++ c ∷ ys)) ≡ true
+              found : (e : Command) × In e (s ++ c ∷ []) × (stops d routes ((s ++ c ∷ []) ∷ []) t z e ≡ true) → (list_any (stops d routes (s ∷ []) t z) s || list_any (takes routes t z) (xs ++ c ∷ ys)) ≡ true
               found (e, m, l) = inside e m l
 
-              here : (e : Command) × In e (xs ++ ys) × (stops d routes [] t z e ≡ true) → list_any (stops d routes [] t z) (xs ++ c ∷ ys) ≡ true
-              here (e, m, l) = list_any_from (stops d routes [] t z) (xs ++ c ∷ ys) e (in_both e m) l
+              here : (e : Command) × In e (xs ++ ys) × (takes routes t z e ≡ true) → list_any (takes routes t z) (xs ++ c ∷ ys) ≡ true
+              here (e, m, l) = list_any_from (takes routes t z) (xs ++ c ∷ ys) e (in_both e m) l
 
-              go : (list_any (stops d routes ((s ++ c ∷ []) ∷ []) t z) (s ++ c ∷ []) ≡ true) ⊎ (list_any (stops d routes [] t z) (xs ++ ys) ≡ true) → (list_any (stops d routes (s ∷ []) t z) s || list_any (stops d routes [] t z) (xs ++ c ∷ ys)) ≡ true
+              go : (list_any (stops d routes ((s ++ c ∷ []) ∷ []) t z) (s ++ c ∷ []) ≡ true) ⊎ (list_any (takes routes t z) (xs ++ ys) ≡ true) → (list_any (stops d routes (s ∷ []) t z) s || list_any (takes routes t z) (xs ++ c ∷ ys)) ≡ true
               go (inl l) = found (list_any_gives (stops d routes ((s ++ c ∷ []) ∷ []) t z) (s ++ c ∷ []) l)
-              go (inr l) = or_right (list_any (stops d routes (s ∷ []) t z) s) (list_any (stops d routes [] t z) (xs ++ c ∷ ys)) (here (list_any_gives (stops d routes [] t z) (xs ++ ys) l))
+              go (inr l) = or_right (list_any (stops d routes (s ∷ []) t z) s) (list_any (takes routes t z) (xs ++ c ∷ ys)) (here (list_any_gives (takes routes t z) (xs ++ ys) l))
 
       -- in a later step
       module _ (own : list_any (λ (e : Command). is_train e.train c.train) s ≡ false) (mid : List (List Command)) (step : List Command) (t : TrainNo) (z : SectionNo) where
@@ -306,7 +304,7 @@ module _ (before : List (List Command)) (s xs ys : List Command) (c : Command) (
 
   -- ---- the whole
 
-  module _ (d : Station) (routes : List Route) (long : (t : TrainNo) → IsTrain d t → 1 ≤ train_length d t) (n : ℕ) (runs : IsRunnable d routes n was)
+  module _ (d : Station) (routes : List Route) (n : ℕ) (runs : IsRunnable d routes n was)
       (own : list_any (λ (e : Command). is_train e.train c.train) s ≡ false) (clear : (z : SectionNo) → In z (sections (route_at routes c.route)) → is_stopped d routes c.train z before s ≡ false) where
     named : names_only d routes was ≡ true
     named = runs.well_formed.named
@@ -383,54 +381,42 @@ module _ (before : List (List Command)) (s xs ys : List Command) (c : Command) (
     paths_were = paths_of_formed d routes was n runs.well_formed.formed
 
     free_was : AreFree d routes [] was
-    free_was = free_of_plan d routes long was named paths_were runs.executable
+    free_was = free_of_plan d routes was named paths_were runs.executable
 
     free_from : AreFree d routes before (s ∷ (xs ++ c ∷ ys) ∷ after)
     free_from = free_back d routes [] before (s ∷ (xs ++ c ∷ ys) ∷ after) free_was
-
-    there : (step : List Command) → In step was → (g : Command) → In g step → IsTrain d g.train
-    there step k g m = its_train d routes g (list_all_at (is_of d routes) (commands was) g named (in_flat_map (λ x. x) was step g k m))
-
-    in_first : In s was
-    in_first = in_append_right s before (s ∷ (xs ++ c ∷ ys) ∷ after) (inl refl)
-
-    in_next : In (xs ++ c ∷ ys) was
-    in_next = in_append_right (xs ++ c ∷ ys) before (s ∷ (xs ++ c ∷ ys) ∷ after) (inr (inl refl))
 
     c_there : In c (xs ++ c ∷ ys)
     c_there = in_append_right c xs (c ∷ ys) (inl refl)
 
     -- a command of a step with the section keeps another train from it there
-    here_stops : (step : List Command) → In step was → (e : Command) → In e step → (t : TrainNo) (z : SectionNo) → is_train e.train t ≡ false → has_section (route_at routes e.route) z ≡ true → list_any (stops d routes [] t z) step ≡ true
-    here_stops step k e m t z other has =
-        list_any_from (stops d routes [] t z) step e m
-        (here_is d routes t z e (long e.train (there step k e m)) ∙ and_both (not (is_train e.train t)) (has_section (route_at routes e.route) z) (ap not other) has)
-
-    stopped_here : (front : List (List Command)) (step : List Command) (t : TrainNo) (z : SectionNo) → list_any (stops d routes [] t z) step ≡ true → is_stopped d routes t z front step ≡ true
-    stopped_here front step t z h = stopped_apart d routes t z front step ∙ or_right (is_stopped d routes t z front []) (list_any (stops d routes [] t z) step) h
+    stopped_here : (front : List (List Command)) (step : List Command) (e : Command) → In e step → (t : TrainNo) (z : SectionNo) → is_train e.train t ≡ false → has_section (route_at routes e.route) z ≡ true → is_stopped d routes t z front step ≡ true
+    stopped_here front step e m t z other has =
+        let taken = list_any_from (takes routes t z) step e m (and_both (not (is_train e.train t)) (has_section (route_at routes e.route) z) (ap not other) has) in
+        stopped_apart d routes t z front step ∙ or_right (is_stopped d routes t z front []) (list_any (takes routes t z) step) taken
 
     -- none of s contends with c
     none_in_first : (e : Command) → In e s → contend routes e c ≡ true → ⊥
     none_in_first e m h =
         let other = is_false (is_train e.train c.train) (and_left (not (is_train e.train c.train)) (share (route_at routes e.route) (route_at routes c.route)) h) in
         let z = one_shared (route_at routes e.route) (route_at routes c.route) (and_right (not (is_train e.train c.train)) (share (route_at routes e.route) (route_at routes c.route)) h) in
-        true≢false (sym (stopped_here before s c.train z.0 (here_stops s in_first e m c.train z.0 other z.1)) ∙ clear z.0 z.2)
+        true≢false (sym (stopped_here before s e m c.train z.0 other z.1) ∙ clear z.0 z.2)
 
     -- nor does one of its own step
     none_in_next : (g : Command) → In g (xs ++ c ∷ ys) → contend routes c g ≡ true → ⊥
     none_in_next g m h =
         let other = is_false (is_train c.train g.train) (and_left (not (is_train c.train g.train)) (share (route_at routes c.route) (route_at routes g.route)) h) in
         let z = one_shared (route_at routes c.route) (route_at routes g.route) (and_right (not (is_train c.train g.train)) (share (route_at routes c.route) (route_at routes g.route)) h) in
-        true≢false (sym (stopped_here (before ++ s ∷ []) (xs ++ c ∷ ys) g.train z.0 (here_stops (xs ++ c ∷ ys) in_next c c_there g.train z.0 other z.1)) ∙ free_from.1.0 g m z.0 z.2)
+        true≢false (sym (stopped_here (before ++ s ∷ []) (xs ++ c ∷ ys) c c_there g.train z.0 other z.1) ∙ free_from.1.0 g m z.0 z.2)
 
     first_free : IsFree d routes before (s ++ c ∷ [])
     first_free g m z k = go (in_append g s (c ∷ []) m)
       where
         -- what stops it stands among the others
-        of_s : (t : TrainNo) → stops d routes [] t z c ≡ false → is_stopped d routes t z before s ≡ false → is_stopped d routes t z before (s ++ c ∷ []) ≡ false
+        of_s : (t : TrainNo) → takes routes t z c ≡ false → is_stopped d routes t z before s ≡ false → is_stopped d routes t z before (s ++ c ∷ []) ≡ false
         of_s t none was_free =
             stopped_apart d routes t z before (s ++ c ∷ [])
-            ∙ ap (λ b. is_stopped d routes t z before [] || b) (list_any-append (stops d routes [] t z) s (c ∷ []) ∙ ap (λ b. list_any (stops d routes [] t z) s || (b || false)) none ∙ right (list_any (stops d routes [] t z) s))
+            ∙ ap (λ b. is_stopped d routes t z before [] || b) (list_any-append (takes routes t z) s (c ∷ []) ∙ ap (λ b. list_any (takes routes t z) s || (b || false)) none ∙ right (list_any (takes routes t z) s))
             ∙ sym (stopped_apart d routes t z before s)
             ∙ was_free
           where
@@ -438,20 +424,16 @@ module _ (before : List (List Command)) (s xs ys : List Command) (c : Command) (
             right true = refl
             right false = refl
 
-        own_train : stops d routes [] c.train z c ≡ false
-        own_train = false_unless (stops d routes [] c.train z c) (λ h.
-            let prefix = not (is_train c.train c.train) && has_section (route_at routes c.route) z in
-            let other = is_false (is_train c.train c.train) (and_left (not (is_train c.train c.train)) (has_section (route_at routes c.route) z) (and_left prefix (not (clears d routes [] c z)) h)) in
-            true≢false (sym (eq-eqb c.train.0 c.train.0 refl) ∙ other))
+        own_train : takes routes c.train z c ≡ false
+        own_train = ap (λ b. not b && has_section (route_at routes c.route) z) (eq-eqb c.train.0 c.train.0 refl)
 
-        -- c stops none of s, since none of s stops it
-        none : In g s → stops d routes [] g.train z c ≡ false
-        none n = false_unless (stops d routes [] g.train z c) (λ h.
-            let prefix = not (is_train c.train g.train) && has_section (route_at routes c.route) z in
-            let both = and_left prefix (not (clears d routes [] c z)) h in
-            let other = is_false (is_train c.train g.train) (and_left (not (is_train c.train g.train)) (has_section (route_at routes c.route) z) both) in
-            let has = and_right (not (is_train c.train g.train)) (has_section (route_at routes c.route) z) both in
-            true≢false (sym (stopped_here before s c.train z (here_stops s in_first g n c.train z (other_way c.train g.train other) (has_its_section (route_at routes g.route) z k))) ∙ clear z (its_section (route_at routes c.route) z has)))
+        -- c keeps none of s from it, since none of s keeps c from it
+        none : In g s → takes routes g.train z c ≡ false
+        none n = false_unless (takes routes g.train z c) (λ h.
+            let differ = not (is_train c.train g.train) in
+            let other = is_false (is_train c.train g.train) (and_left differ (has_section (route_at routes c.route) z) h) in
+            let has = and_right differ (has_section (route_at routes c.route) z) h in
+            true≢false (sym (stopped_here before s g n c.train z (other_way c.train g.train other) (has_when_in (route_at routes g.route) z k)) ∙ clear z (in_sections (route_at routes c.route) z has)))
 
         go : In g s ⊎ In g (c ∷ []) → is_stopped d routes g.train z before (s ++ c ∷ []) ≡ false
         go (inl n) = of_s g.train (none n) (free_from.0 g n z k)
@@ -481,7 +463,7 @@ module _ (before : List (List Command)) (s xs ys : List Command) (c : Command) (
     )
 
     runs_now : (m : ℕ) → IsRunnable d routes m was → IsRunnable d routes m now
-    runs_now m r = record { well_formed = formed_now m r; executable = plan_of_free d routes long now names_now (paths_are m r) free_now }
+    runs_now m r = record { well_formed = formed_now m r; executable = plan_of_free d routes now names_now (paths_are m r) free_now }
 
     -- ---- the order
 

@@ -1,5 +1,5 @@
 -- Commands that name trains and routes of the design.
-use Rattle.std.proofs.Common.{◌≡◌, ℕ, ◌≤◌, ◌<◌, inl, inr, true, ◌&&◌, nat_le, List, [], ◌∷◌, length, get_or, take, Option, None, Some, All, refl, sym, subst, ◌∙◌, arith, leb-true}
+use Rattle.std.proofs.Common.{◌≡◌, ℕ, ◌<◌, inl, inr, true, ◌&&◌, nat_le, List, [], ◌∷◌, length, get_or, take, Option, None, Some, All, refl, sym, subst, ◌∙◌, arith, leb-true}
 use Rattle.std.proofs.lemmas.List.{length-take, get_or-take}
 use Rattle.std.specs.Option.{option_or}
 use Rattle.rail_base.specs.declared.station.Station.{Station}
@@ -8,8 +8,7 @@ use Rattle.rail_base.specs.declared.route.Route.{Route}
 use Rattle.rail_base.specs.declared.route.RouteNo.{RouteNo}
 use Rattle.rail_base.specs.declared.plan.Command.{Command}
 use Rattle.rail_base.specs.Routes.{IsRoute}
-use Rattle.rail_base.specs.Stations.{IsTrain, train_of, train_length}
-use Rattle.rail_base.specs.Admission.{is_admitted}
+use Rattle.rail_base.specs.Stations.{IsTrain}
 use Rattle.rail_base.specs.Members.{In}
 use Rattle.rail_base.specs.Numbering.{first_of_list}
 use Rattle.rail_spec.specs.Plans.{commands, path, routes_given}
@@ -18,7 +17,6 @@ use Rattle.rail_plan.specs.Named.{HasRoute, HaveRoutes, HaveTrains}
 use Rattle.rail_plan.specs.WellFormed.{last_of_list}
 use Rattle.rail_base.proofs.Members.{and_left, and_right, list_all_at}
 use Rattle.rail_base.proofs.Lists.{in_flat_map, in_flat_map_back}
-use Rattle.rail_base.proofs.Admitting.{admitted}
 use Rattle.rail_base.proofs.Contained.{in_at, contains_of_in}
 use Rattle.rail_laws.proofs.Standing.{in_routes_given}
 
@@ -69,10 +67,6 @@ module _ (d : Station) (routes : List Route) where
 
   pub all_have_trains : (plan : List (List Command)) → names_only d routes plan ≡ true → All (HaveTrains d) plan
   all_have_trains plan h = λ i other l j c k. its_train (get_or (get_or plan i other) j c) (list_all_at (is_of d routes) (commands plan) (get_or (get_or plan i other) j c) h (in_flat_map (λ s. s) plan (get_or plan i other) (get_or (get_or plan i other) j c) (in_at plan i other l) (in_at (get_or plan i other) j c k)))
-
--- a train is at least 1 mm long
-pub trains_are_long : (d : Station) → is_admitted d ≡ true → (t : TrainNo) → IsTrain d t → 1 ≤ train_length d t
-trains_are_long d h t k = ((admitted d h).vehicle (train_of d t).vehicle ((admitted d h).train t k).vehicle).length_mm.0
 
 -- what holds of all holds of those in front
 pub all_prefix : {X : Type 0} (P : X → Type 0) (xs : List X) (n : ℕ) → All P xs → All P (take n xs)

@@ -1,5 +1,5 @@
 -- A plan is executable exactly where no command is blocked.
-use Rattle.std.proofs.Common.{◌≡◌, ℕ, suc, ◌≤◌, ℤ, Bool, true, false, not, ◌&&◌, ◌||◌, ◌==◌, nat_lt, List, [], map, filter, flat_map, length, refl, sym, ap, subst, ◌∙◌, arith, leb-true, leb-false, eqb-true, eq-eqb, true≢false, Contains}
+use Rattle.std.proofs.Common.{◌≡◌, ℕ, suc, ◌≤◌, ◌⊎◌, inl, inr, Bool, true, false, not, ◌&&◌, ◌||◌, ◌==◌, nat_lt, List, [], map, filter, flat_map, length, refl, sym, ap, ap₂, subst, ◌∙◌, arith, leb-true, leb-false, eqb-true, eq-eqb, true≢false, Contains}
 use Rattle.std.specs.List.{list_any, list_all}
 use Rattle.std.proofs.lemmas.List.{get_or_default}
 use Rattle.rail_base.specs.declared.station.Station.{Station}
@@ -10,122 +10,121 @@ use Rattle.rail_base.specs.declared.plan.Command.{Command}
 use Rattle.rail_base.specs.Members.{In}
 use Rattle.rail_base.specs.Numbering.{entry, one_to}
 use Rattle.rail_base.specs.Stations.{trains}
-use Rattle.rail_spec.specs.Plans.{is_train, commands, route_at, sections, has_section, shared, share, step_of, can_clear, may_stand, is_executable}
+use Rattle.rail_base.specs.Routes.{overlaps}
+use Rattle.rail_spec.specs.Plans.{is_train, commands, route_at, sections, own_sections, has_section, goes_over, own_shared, share, step_of, can_clear, may_stand, is_executable}
 use Rattle.rail_spec.specs.Feasible.{is_of, names_only}
 use Rattle.rail_plan.specs.declared.place.PlanPlace.{PlanPlace}
 use Rattle.rail_plan.specs.declared.place.PlanPlace.TheVariants as place
 use Rattle.rail_plan.specs.Executable.{keeps_from, blocked_sections, blocked_in, blocked}
-use Rattle.rail_base.proofs.Members.{and_left, and_right, and_both, list_all_at, list_any_from, list_any_gives, in_filter, is_false}
-use Rattle.rail_base.proofs.Lists.{in_map, in_map_back, in_filter_back, in_flat_map, in_flat_map_back, list_all_from, in_entry}
+use Rattle.rail_base.proofs.Members.{and_left, and_right, and_both, either, list_all_at, list_any_from, list_any_gives, in_filter, is_false, or_left, or_right}
+use Rattle.rail_base.proofs.Sharing.{has_when_in, in_own, in_sections, own_goes_over}
+use Rattle.rail_base.proofs.Lists.{in_map_back, in_filter_back, in_flat_map, in_flat_map_back, list_all_from, in_entry}
 use Rattle.rail_base.proofs.Contained.{contains_of_in}
 use Rattle.rail_plan.proofs.Named.{its_train}
 use Rattle.rail_plan.proofs.Empties.{none_in, none_mapped, none_kept, none_joined, in_one_to, in_one_to_back, in_trains}
 
 -- ---- sections
 
-same_section : (y z : SectionNo) → (y.0 == z.0) ≡ true → y ≡ z
-same_section y z h = let n : y.0 ≡ z.0 = eqb-true y.0 z.0 h in ap (λ k. record { 0 = k }) n
-
-pub has_its_section : (r : Route) (z : SectionNo) → In z (sections r) → has_section r z ≡ true
-has_its_section r z m = go (in_map_back (λ (p : SectionNo × ℤ). p.0) r.sections z m)
-  where
-    go : (p : SectionNo × ℤ) × In p r.sections × (p.0 ≡ z) → has_section r z ≡ true
-    go (p, k, e) = list_any_from (λ (q : SectionNo × ℤ). q.0.0 == z.0) r.sections p k (eq-eqb p.0.0 z.0 (ap (λ (y : SectionNo). y.0) e))
-
-pub its_section : (r : Route) (z : SectionNo) → has_section r z ≡ true → In z (sections r)
-its_section r z h = go (list_any_gives (λ (p : SectionNo × ℤ). p.0.0 == z.0) r.sections h)
-  where
-    go : (p : SectionNo × ℤ) × In p r.sections × ((p.0.0 == z.0) ≡ true) → In z (sections r)
-    go (p, m, e) = subst (λ y. In y (sections r)) (same_section p.0 z e) (in_map (λ (p : SectionNo × ℤ). p.0) r.sections p m)
+-- a route has the sections that it goes over
+pub over_has : (r : Route) (z : SectionNo) → goes_over r z ≡ true → has_section r z ≡ true
+over_has r z h = or_left (goes_over r z) (overlaps r z) h
 
 pub shares_it : (r q : Route) (z : SectionNo) → has_section r z ≡ true → In z (sections q) → share r q ≡ true
-shares_it r q z h m = go (list_any_gives (λ (p : SectionNo × ℤ). p.0.0 == z.0) r.sections h)
-  where
-    go : (p : SectionNo × ℤ) × In p r.sections × ((p.0.0 == z.0) ≡ true) → share r q ≡ true
-    go (p, k, e) = list_any_from (λ (p : SectionNo × ℤ). has_section q p.0) r.sections p k (subst (λ y. has_section q y ≡ true) (sym (same_section p.0 z e)) (has_its_section q z m))
+shares_it r q z h m = list_any_from (has_section q) (sections r) z (in_sections r z h) (has_when_in q z m)
 
-pub in_shared : (r q : Route) (z : SectionNo) → has_section r z ≡ true → In z (sections q) → In z (shared r q)
-in_shared r q z h m = in_filter (has_section q) (sections r) z (its_section r z h) (has_its_section q z m)
+pub in_own_shared : (r q : Route) (z : SectionNo) → goes_over r z ≡ true → In z (sections q) → In z (own_shared r q)
+in_own_shared r q z h m = in_filter (has_section q) (own_sections r) z (in_own r z h) (has_when_in q z m)
 
 -- a section that two routes share
 pub one_shared : (r q : Route) → share r q ≡ true → (z : SectionNo) × (has_section r z ≡ true) × In z (sections q)
-one_shared r q h = go (list_any_gives (λ (p : SectionNo × ℤ). has_section q p.0) r.sections h)
-  where
-    go : (p : SectionNo × ℤ) × In p r.sections × (has_section q p.0 ≡ true) → (z : SectionNo) × (has_section r z ≡ true) × In z (sections q)
-    go (p, m, e) = (p.0, has_its_section r p.0 (in_map (λ (p : SectionNo × ℤ). p.0) r.sections p m), its_section q p.0 e)
+one_shared r q h = let z = list_any_gives (has_section q) (sections r) h in (z.0, has_when_in r z.0 z.1, in_sections q z.0 z.2)
 
 module _ (d : Station) (routes : List Route) (plan : List (List Command)) where
   -- ---- two commands
 
-  -- e keeps c from no section where they may stand as they do
-  stands_free : (e c : Command) (z : SectionNo) → may_stand d routes plan e c ≡ true → In z (sections (route_at routes c.route)) → keeps_from d routes plan c z e ≡ true → ⊥
-  stands_free e c z may m keeps =
-      let r = route_at routes e.route in
-      let q = route_at routes c.route in
-      let prefix = not (is_train e.train c.train) && has_section r z in
-      let sooner = nat_lt (step_of plan e) (step_of plan c) in
-      let late = (step_of plan e == step_of plan c) || (sooner && not (can_clear d routes plan e c z)) in
-      let both = and_left prefix late keeps in
-      let has = and_right (not (is_train e.train c.train)) (has_section r z) both in
-      let other = is_false (is_train e.train c.train) (and_left (not (is_train e.train c.train)) (has_section r z) both) in
-      go (is_train e.train c.train) (share r q) (nat_lt (step_of plan c) (step_of plan e)) sooner (can_clear d routes plan e c z) (list_all (can_clear d routes plan e c) (shared r q)) (step_of plan e == step_of plan c)
-      other (shares_it r q z has m) refl refl refl (λ h. list_all_at (can_clear d routes plan e c) (shared r q) z h (in_shared r q z has m)) refl may (and_right prefix late keeps)
-    where
-      go : (t s l f k a i : Bool) → t ≡ false → s ≡ true → nat_lt (step_of plan c) (step_of plan e) ≡ l → nat_lt (step_of plan e) (step_of plan c) ≡ f → can_clear d routes plan e c z ≡ k
-          → (a ≡ true → can_clear d routes plan e c z ≡ true) → (step_of plan e == step_of plan c) ≡ i → (t || not s || l || (f && a)) ≡ true → (i || (f && not k)) ≡ true → ⊥
-      go true s l f k a i et es el ef ek all ei h j = cc
-      go false false l f k a i et es el ef ek all ei h j = cc
-      go false true true f k a true et es el ef ek all ei h j =
-          let same : step_of plan e ≡ step_of plan c = eqb-true (step_of plan e) (step_of plan c) ei in
-          let less = leb-true (suc (step_of plan c)) (step_of plan e) el in
-          absurd (omega arith)
-      go false true true false k a false et es el ef ek all ei h j = cc
-      go false true true true k a false et es el ef ek all ei h j =
-          let less = leb-true (suc (step_of plan c)) (step_of plan e) el in
-          let more = leb-true (suc (step_of plan e)) (step_of plan c) ef in
-          absurd (omega arith)
-      go false true false false k a i et es el ef ek all ei h j = cc
-      go false true false true k false i et es el ef ek all ei h j = cc
-      go false true false true k true true et es el ef ek all ei h j =
-          let same : step_of plan e ≡ step_of plan c = eqb-true (step_of plan e) (step_of plan c) ei in
-          let more = leb-true (suc (step_of plan e)) (step_of plan c) ef in
-          absurd (omega arith)
-      go false true false true true true false et es el ef ek all ei h j = cc
-      go false true false true false true false et es el ef ek all ei h j = true≢false (sym (all refl) ∙ ek)
+  module _ (e c : Command) where
+    abbrev earlier : Route
+    earlier = route_at routes e.route
 
-  -- they may stand so where e keeps c from none
-  free_stands : (e c : Command) → ((z : SectionNo) → In z (sections (route_at routes c.route)) → keeps_from d routes plan c z e ≡ true → ⊥) → may_stand d routes plan e c ≡ true
-  free_stands e c free = go (is_train e.train c.train) (share (route_at routes e.route) (route_at routes c.route)) (nat_lt (step_of plan c) (step_of plan e)) (nat_lt (step_of plan e) (step_of plan c)) refl refl refl refl
-    where
-      keep : (z : SectionNo) → is_train e.train c.train ≡ false → has_section (route_at routes e.route) z ≡ true → ((step_of plan e == step_of plan c) || (nat_lt (step_of plan e) (step_of plan c) && not (can_clear d routes plan e c z))) ≡ true → keeps_from d routes plan c z e ≡ true
-      keep z t h l = and_both (not (is_train e.train c.train) && has_section (route_at routes e.route) z) ((step_of plan e == step_of plan c) || (nat_lt (step_of plan e) (step_of plan c) && not (can_clear d routes plan e c z))) (and_both (not (is_train e.train c.train)) (has_section (route_at routes e.route) z) (ap not t) h) l
+    abbrev later : Route
+    later = route_at routes c.route
 
-      together : is_train e.train c.train ≡ false → share (route_at routes e.route) (route_at routes c.route) ≡ true → step_of plan e ≡ step_of plan c → ⊥
-      together t s same =
-          let z = one_shared (route_at routes e.route) (route_at routes c.route) s in
-          free z.0 z.2 (keep z.0 t z.1 (ap (λ b. b || (nat_lt (step_of plan e) (step_of plan c) && not (can_clear d routes plan e c z.0))) (eq-eqb (step_of plan e) (step_of plan c) same)))
+    abbrev other : Bool
+    other = not (is_train e.train c.train)
 
-      later : (a b : Bool) → b ≡ true → (a || b) ≡ true
-      later true b h = refl
-      later false b h = h
+    abbrev together : SectionNo → Bool
+    together z = has_section earlier z && (step_of plan e == step_of plan c)
 
-      cleared : is_train e.train c.train ≡ false → nat_lt (step_of plan e) (step_of plan c) ≡ true → (z : SectionNo) → In z (shared (route_at routes e.route) (route_at routes c.route)) → (k : Bool) → can_clear d routes plan e c z ≡ k → can_clear d routes plan e c z ≡ true
-      cleared t f z m true e' = e'
-      cleared t f z m false e' =
-          let l = in_filter_back (has_section (route_at routes c.route)) (sections (route_at routes e.route)) z m in
-          let fails = and_both (nat_lt (step_of plan e) (step_of plan c)) (not (can_clear d routes plan e c z)) f (ap not e') in
-          absurd (free z (its_section (route_at routes c.route) z l.1) (keep z t (has_its_section (route_at routes e.route) z l.0) (later (step_of plan e == step_of plan c) (nat_lt (step_of plan e) (step_of plan c) && not (can_clear d routes plan e c z)) fails)))
+    abbrev sooner : Bool
+    sooner = nat_lt (step_of plan e) (step_of plan c)
 
-      go : (t s l f : Bool) → is_train e.train c.train ≡ t → share (route_at routes e.route) (route_at routes c.route) ≡ s → nat_lt (step_of plan c) (step_of plan e) ≡ l → nat_lt (step_of plan e) (step_of plan c) ≡ f
-          → (t || not s || l || (f && list_all (can_clear d routes plan e c) (shared (route_at routes e.route) (route_at routes c.route)))) ≡ true
-      go true s l f et es el ef = refl
-      go false false l f et es el ef = refl
-      go false true true f et es el ef = refl
-      go false true false true et es el ef = list_all_from (can_clear d routes plan e c) (shared (route_at routes e.route) (route_at routes c.route)) (λ z m. cleared et ef z m (can_clear d routes plan e c z) refl)
-      go false true false false et es el ef =
-          let low = leb-false (suc (step_of plan c)) (step_of plan e) el in
-          let high = leb-false (suc (step_of plan e)) (step_of plan c) ef in
-          absurd (together et es (omega arith))
+    abbrev uncleared : SectionNo → Bool
+    uncleared z = goes_over earlier z && sooner && not (can_clear d routes plan e c z)
+
+    abbrev all_cleared : Bool
+    all_cleared = list_all (can_clear d routes plan e c) (own_shared earlier later)
+
+    -- where they share a section and may stand as they do, one of them is earlier, and e clears what it is to clear
+    stand_apart : may_stand d routes plan e c ≡ true → other ≡ true → share earlier later ≡ true → (nat_lt (step_of plan c) (step_of plan e) ≡ true) ⊎ ((sooner && all_cleared) ≡ true)
+    stand_apart may o s = either (nat_lt (step_of plan c) (step_of plan e)) (sooner && all_cleared)
+        (sym (ap₂ (λ a b. a || not b || nat_lt (step_of plan c) (step_of plan e) || (sooner && all_cleared)) (is_false (is_train e.train c.train) o) s) ∙ may)
+
+    -- e keeps c from no section where they may stand so
+    stands_free : (z : SectionNo) → may_stand d routes plan e c ≡ true → In z (sections later) → keeps_from d routes plan c z e ≡ true → ⊥
+    stands_free z may m keeps = go (either (together z) (uncleared z) (and_right other (together z || uncleared z) keeps))
+      where
+        apart : has_section earlier z ≡ true → (nat_lt (step_of plan c) (step_of plan e) ≡ true) ⊎ ((sooner && all_cleared) ≡ true)
+        apart h = stand_apart may (and_left other (together z || uncleared z) keeps) (shares_it earlier later z h m)
+
+        not_same : step_of plan e ≡ step_of plan c → (nat_lt (step_of plan c) (step_of plan e) ≡ true) ⊎ ((sooner && all_cleared) ≡ true) → ⊥
+        not_same same (inl l) = let less = leb-true (suc (step_of plan c)) (step_of plan e) l in absurd (omega arith)
+        not_same same (inr l) = let more = leb-true (suc (step_of plan e)) (step_of plan c) (and_left sooner all_cleared l) in absurd (omega arith)
+
+        not_later : goes_over earlier z ≡ true → sooner ≡ true → can_clear d routes plan e c z ≡ false → (nat_lt (step_of plan c) (step_of plan e) ≡ true) ⊎ ((sooner && all_cleared) ≡ true) → ⊥
+        not_later over f kept (inl l) =
+            let less = leb-true (suc (step_of plan c)) (step_of plan e) l in
+            let more = leb-true (suc (step_of plan e)) (step_of plan c) f in
+            absurd (omega arith)
+        not_later over f kept (inr l) =
+            true≢false (sym (list_all_at (can_clear d routes plan e c) (own_shared earlier later) z (and_right sooner all_cleared l) (in_own_shared earlier later z over m)) ∙ kept)
+
+        go : (together z ≡ true) ⊎ (uncleared z ≡ true) → ⊥
+        go (inl h) =
+            not_same (eqb-true (step_of plan e) (step_of plan c) (and_right (has_section earlier z) (step_of plan e == step_of plan c) h))
+            (apart (and_left (has_section earlier z) (step_of plan e == step_of plan c) h))
+        go (inr h) =
+            let both = and_left (goes_over earlier z && sooner) (not (can_clear d routes plan e c z)) h in
+            let over = and_left (goes_over earlier z) sooner both in
+            not_later over (and_right (goes_over earlier z) sooner both) (is_false (can_clear d routes plan e c z) (and_right (goes_over earlier z && sooner) (not (can_clear d routes plan e c z)) h)) (apart (over_has earlier z over))
+
+    -- they may stand so where e keeps c from none
+    free_stands : ((z : SectionNo) → In z (sections later) → keeps_from d routes plan c z e ≡ true → ⊥) → may_stand d routes plan e c ≡ true
+    free_stands free = go (is_train e.train c.train) (share earlier later) (nat_lt (step_of plan c) (step_of plan e)) sooner refl refl refl refl
+      where
+        keep : (z : SectionNo) → is_train e.train c.train ≡ false → (together z || uncleared z) ≡ true → keeps_from d routes plan c z e ≡ true
+        keep z t l = and_both other (together z || uncleared z) (ap not t) l
+
+        not_together : is_train e.train c.train ≡ false → share earlier later ≡ true → step_of plan e ≡ step_of plan c → ⊥
+        not_together t s same =
+            let z = one_shared earlier later s in
+            free z.0 z.2 (keep z.0 t (or_left (together z.0) (uncleared z.0) (and_both (has_section earlier z.0) (step_of plan e == step_of plan c) z.1 (eq-eqb (step_of plan e) (step_of plan c) same))))
+
+        cleared : is_train e.train c.train ≡ false → sooner ≡ true → (z : SectionNo) → In z (own_shared earlier later) → (k : Bool) → can_clear d routes plan e c z ≡ k → can_clear d routes plan e c z ≡ true
+        cleared t f z m true k = k
+        cleared t f z m false k =
+            let l = in_filter_back (has_section later) (own_sections earlier) z m in
+            let fails = and_both (goes_over earlier z && sooner) (not (can_clear d routes plan e c z)) (and_both (goes_over earlier z) sooner (own_goes_over earlier z l.0) f) (ap not k) in
+            absurd (free z (in_sections later z l.1) (keep z t (or_right (together z) (uncleared z) fails)))
+
+        go : (t s l f : Bool) → is_train e.train c.train ≡ t → share earlier later ≡ s → nat_lt (step_of plan c) (step_of plan e) ≡ l → sooner ≡ f → (t || not s || l || (f && all_cleared)) ≡ true
+        go true s l f et es el ef = refl
+        go false false l f et es el ef = refl
+        go false true true f et es el ef = refl
+        go false true false true et es el ef = list_all_from (can_clear d routes plan e c) (own_shared earlier later) (λ z m. cleared et ef z m (can_clear d routes plan e c z) refl)
+        go false true false false et es el ef =
+            let low = leb-false (suc (step_of plan c)) (step_of plan e) el in
+            let high = leb-false (suc (step_of plan e)) (step_of plan c) ef in
+            absurd (not_together et es (omega arith))
 
   -- ---- all commands
 

@@ -11,20 +11,21 @@ use Rattle.rail_base.specs.declared.plan.Command.{Command}
 use Rattle.rail_base.specs.Members.{In}
 use Rattle.rail_base.specs.Numbering.{entry}
 use Rattle.rail_base.specs.Stations.{train_length, trains, IsTrain}
-use Rattle.rail_spec.specs.Plans.{is_train, one_each, route_at, sections, has_section, release_offset, routes_given}
+use Rattle.rail_spec.specs.Plans.{is_train, one_each, route_at, sections, has_section, goes_over, release_offset, routes_given}
 use Rattle.rail_plan.specs.declared.holds.Hold.{Hold}
 use Rattle.rail_plan.specs.declared.place.PlanPlace.TheVariants as place
-use Rattle.rail_plan.specs.Ahead.{stops, is_stopped, stopped_sections, stopped_in, stopped}
+use Rattle.rail_plan.specs.Ahead.{is_stopped, stopped_sections, stopped_in, stopped}
 use Rattle.rail_plan.specs.Holds.{rest_after, no_hold, hold_at, keeps_out, lacks, taken, given_step, takes, lack_after, taken_by_parts, taken_by, taken_by_step, turned, lack_of, lack_in, lack, AreHolds}
 use Rattle.rail_plan.specs.Named.{HaveTrains}
 use Rattle.rail_base.proofs.Lists.{in_map}
 use Rattle.rail_base.proofs.Members.{and_both, below_or_not, false_unless, in_filter, list_any_from, list_any_gives, same_bool}
+use Rattle.rail_base.proofs.Sharing.{in_sections}
 use Rattle.rail_laws.proofs.Given.{same_train}
 use Rattle.rail_plan.proofs.Empties.{in_trains, none_joined, none_kept, none_mapped}
-use Rattle.rail_plan.proofs.Holding.{kept_out_is, lack_more, stopped_apart, takes_is}
+use Rattle.rail_plan.proofs.Holding.{kept_out_is, lack_more, stopped_apart}
 use Rattle.rail_plan.proofs.Named.{all_in}
 use Rattle.rail_plan.proofs.Resting.{rest_max, rest_none}
-use Rattle.rail_plan.proofs.Standing.{its_section}
+use Rattle.rail_plan.proofs.Standing.{over_has}
 use Rattle.rail_plan.proofs.WellFormed.{few_given}
 
 -- ---- a section that is taken
@@ -132,7 +133,7 @@ module _ (d : Station) (routes : List Route) (z : SectionNo) where
   -- ---- by the commands of a step, that of one train at most
 
   module _ (given : TrainNo → List Route) (u : TrainNo) where
-    one_taken : (h : Hold) (c : Command) → has_section (route_at routes c.route) z ≡ true → given c.train ≡ route_at routes c.route ∷ [] → (h.train ≡ c.train) ⊎ (h.left ≡ 0)
+    one_taken : (h : Hold) (c : Command) → goes_over (route_at routes c.route) z ≡ true → given c.train ≡ route_at routes c.route ∷ [] → (h.train ≡ c.train) ⊎ (h.left ≡ 0)
         → lacks (taken_by d routes z c h) u ≡ max (lacks h u) (lack_of d routes z u (given u) c)
     one_taken h c has own free =
         ap (λ k. lacks k u) (taken_there c h (route_at routes c.route).sections has)
@@ -149,15 +150,15 @@ module _ (d : Station) (routes : List Route) (z : SectionNo) where
         lacking : TrainNo → ℕ
         lacking t = rest_after (release_offset (route_at routes c.route) z + train_length d t) (given t)
 
-        go : (b : Bool) → is_train c.train u ≡ b → (if is_train c.train u then n else 0) ≡ (if is_train c.train u && has_section (route_at routes c.route) z then lacking u else 0)
+        go : (b : Bool) → is_train c.train u ≡ b → (if is_train c.train u then n else 0) ≡ (if is_train c.train u && goes_over (route_at routes c.route) z then lacking u else 0)
         go true e =
             let same = same_train c.train u e in
-            let there : (is_train c.train u && has_section (route_at routes c.route) z) ≡ true = and_both (is_train c.train u) (has_section (route_at routes c.route) z) e has in
+            let there : (is_train c.train u && goes_over (route_at routes c.route) z) ≡ true = and_both (is_train c.train u) (goes_over (route_at routes c.route) z) e has in
             ap (λ b. if b then n else 0) e
             ∙ sym (ap (rest_after (release_offset (route_at routes c.route) z + train_length d c.train)) own)
             ∙ ap lacking same
             ∙ sym (ap (λ b. if b then lacking u else 0) there)
-        go false e = ap (λ b. if b then n else 0) e ∙ sym (ap (λ b. if b && has_section (route_at routes c.route) z then lacking u else 0) e)
+        go false e = ap (λ b. if b then n else 0) e ∙ sym (ap (λ b. if b && goes_over (route_at routes c.route) z then lacking u else 0) e)
 
     more : (x a b k : ℕ) → x ≡ max (max a b) k → x ≡ max a (max b k)
     more x a b k e = omega arith
@@ -165,10 +166,10 @@ module _ (d : Station) (routes : List Route) (z : SectionNo) where
     nothing : (x a b k : ℕ) → b ≡ 0 → x ≡ max a k → x ≡ max a (max b k)
     nothing x a b k e f = omega arith
 
-    all_taken : (t : TrainNo) (cs : List Command) → ((e : Command) → In e cs → has_section (route_at routes e.route) z ≡ true → e.train ≡ t) → AreAlone routes given cs → (h : Hold) → (h.train ≡ t) ⊎ (h.left ≡ 0)
+    all_taken : (t : TrainNo) (cs : List Command) → ((e : Command) → In e cs → goes_over (route_at routes e.route) z ≡ true → e.train ≡ t) → AreAlone routes given cs → (h : Hold) → (h.train ≡ t) ⊎ (h.left ≡ 0)
         → lacks (taken_by_step d routes z cs h) u ≡ max (lacks h u) (lack_in d routes z u (given u) cs)
     all_taken t [] one own h free = let e : lacks h u ≡ max (lacks h u) 0 = omega arith in e
-    all_taken t (c ∷ cs) one own h free = go (has_section (route_at routes c.route) z) refl (all_taken t cs (λ e m. one e (inr m)) (λ e m. own e (inr m)))
+    all_taken t (c ∷ cs) one own h free = go (goes_over (route_at routes c.route) z) refl (all_taken t cs (λ e m. one e (inr m)) (λ e m. own e (inr m)))
       where
         after : Hold
         after = taken_by d routes z c h
@@ -177,7 +178,7 @@ module _ (d : Station) (routes : List Route) (z : SectionNo) where
         mine same (inl e) = inl (e ∙ sym same)
         mine same (inr e) = inr e
 
-        go : (b : Bool) → has_section (route_at routes c.route) z ≡ b → ((k : Hold) → (k.train ≡ t) ⊎ (k.left ≡ 0) → lacks (taken_by_step d routes z cs k) u ≡ max (lacks k u) (lack_in d routes z u (given u) cs)) → lacks (taken_by_step d routes z cs after) u ≡ max (lacks h u) (max (lack_of d routes z u (given u) c) (lack_in d routes z u (given u) cs))
+        go : (b : Bool) → goes_over (route_at routes c.route) z ≡ b → ((k : Hold) → (k.train ≡ t) ⊎ (k.left ≡ 0) → lacks (taken_by_step d routes z cs k) u ≡ max (lacks k u) (lack_in d routes z u (given u) cs)) → lacks (taken_by_step d routes z cs after) u ≡ max (lacks h u) (max (lack_of d routes z u (given u) c) (lack_in d routes z u (given u) cs))
         go true e later =
             let same = one c (inl refl) e in
             let train : after.train ≡ t = ap (λ (k : Hold). k.train) (taken_there c h (route_at routes c.route).sections e) ∙ same in
@@ -191,7 +192,7 @@ module _ (d : Station) (routes : List Route) (z : SectionNo) where
             lacking : ℕ
             lacking = rest_after (release_offset (route_at routes c.route) z + train_length d u) (given u)
 
-            none : (a : Bool) → (if a && has_section (route_at routes c.route) z then lacking else 0) ≡ 0
+            none : (a : Bool) → (if a && goes_over (route_at routes c.route) z then lacking else 0) ≡ 0
             none true = ap (λ b. if b then lacking else 0) e
             none false = refl
 
@@ -203,31 +204,30 @@ only (y ∷ []) x (inl e) h = ap (λ v. v ∷ []) e
 only (y ∷ []) x (inr m) h = absurd m
 only (y ∷ w ∷ ys) x m h = absurd (omega arith)
 
-module _ (d : Station) (routes : List Route) (long : (t : TrainNo) → IsTrain d t → 1 ≤ train_length d t) (before : List (List Command)) (step : List Command) (named : HaveTrains d step) (one : one_each step ≡ true) (free : stopped d routes before step ≡ []) where
+module _ (d : Station) (routes : List Route) (before : List (List Command)) (step : List Command) (named : HaveTrains d step) (one : one_each step ≡ true) (free : stopped d routes before step ≡ []) where
   abbrev given : TrainNo → List Route
   given t = map (route_at routes) (routes_given t step)
 
   alone : AreAlone routes given step
   alone e m = ap (map (route_at routes)) (only (routes_given e.train step) e.route (in_map (λ (c : Command). c.route) (filter (λ (c : Command). is_train c.train e.train) step) e (in_filter (λ (c : Command). is_train c.train e.train) step e m (eq-eqb e.train.0 e.train.0 refl))) (few_given e.train step one))
 
-  not_stopped : (c : Command) (z : SectionNo) → In c step → has_section (route_at routes c.route) z ≡ true → is_stopped d routes c.train z before step ≡ false
-  not_stopped c z m has =
+  not_stopped : (c : Command) (z : SectionNo) → In c step → goes_over (route_at routes c.route) z ≡ true → is_stopped d routes c.train z before step ≡ false
+  not_stopped c z m over =
       let train : IsTrain d c.train = all_in (λ (e : Command). IsTrain d e.train) step c named m in
       let none = none_joined (stopped_in d routes before step) (trains d) c.train free (in_trains d c.train train) in
       let places = λ (e : Command). map (place.Section (length before + 1) c.train) (stopped_sections d routes before step e) in
       let own = none_joined places (filter (λ (e : Command). is_train e.train c.train) step) c none (in_filter (λ (e : Command). is_train e.train c.train) step c m (eq-eqb c.train.0 c.train.0 refl)) in
       let sections_none = none_mapped (place.Section (length before + 1) c.train) (stopped_sections d routes before step c) own in
-      false_unless (is_stopped d routes c.train z before step) (λ k. none_kept (λ y. is_stopped d routes c.train y before step) (sections (route_at routes c.route)) z sections_none (its_section (route_at routes c.route) z has) k)
+      false_unless (is_stopped d routes c.train z before step) (λ k. none_kept (λ y. is_stopped d routes c.train y before step) (sections (route_at routes c.route)) z sections_none (in_sections (route_at routes c.route) z (over_has (route_at routes c.route) z over)) k)
 
   both_false : (a b : Bool) → (a || b) ≡ false → (a ≡ false) × (b ≡ false)
   both_false true b h = absurd (true≢false h)
   both_false false b h = (refl, h)
 
   -- nothing stands there before the step, nor does another train in it
-  not_before : (c : Command) (z : SectionNo) → In c step → has_section (route_at routes c.route) z ≡ true → (is_stopped d routes c.train z before [] ≡ false) × (list_any (takes routes c.train z) step ≡ false)
-  not_before c z m has =
-      let both = both_false (is_stopped d routes c.train z before []) (list_any (stops d routes [] c.train z) step) (sym (stopped_apart d routes c.train z before step) ∙ not_stopped c z m has) in
-      (both.0, sym (takes_is d routes long step named c.train z) ∙ both.1)
+  not_before : (c : Command) (z : SectionNo) → In c step → goes_over (route_at routes c.route) z ≡ true → (is_stopped d routes c.train z before [] ≡ false) × (list_any (takes routes c.train z) step ≡ false)
+  not_before c z m over =
+      both_false (is_stopped d routes c.train z before []) (list_any (takes routes c.train z) step) (sym (stopped_apart d routes c.train z before step) ∙ not_stopped c z m over)
 
   module _ (z : SectionNo) (h : Hold) (tells : (u : TrainNo) → lack d routes z u before ≡ lacks h u) where
     abbrev moved : Hold
@@ -241,21 +241,21 @@ module _ (d : Station) (routes : List Route) (long : (t : TrainNo) → IsTrain d
         go false e = rest_none (given u) ∙ sym (ap (λ b. if b then rest_after h.left (given h.train) else 0) e)
 
     -- one train at most takes the section, and no other one is left there
-    one_train : (t : TrainNo) × ((e : Command) → In e step → has_section (route_at routes e.route) z ≡ true → e.train ≡ t) × ((moved.train ≡ t) ⊎ (moved.left ≡ 0))
-    one_train = go (list_any (λ (e : Command). has_section (route_at routes e.route) z) step) refl
+    one_train : (t : TrainNo) × ((e : Command) → In e step → goes_over (route_at routes e.route) z ≡ true → e.train ≡ t) × ((moved.train ≡ t) ⊎ (moved.left ≡ 0))
+    one_train = go (list_any (λ (e : Command). goes_over (route_at routes e.route) z) step) refl
       where
-        found : (c : Command) × In c step × (has_section (route_at routes c.route) z ≡ true) → (t : TrainNo) × ((e : Command) → In e step → has_section (route_at routes e.route) z ≡ true → e.train ≡ t) × ((moved.train ≡ t) ⊎ (moved.left ≡ 0))
+        found : (c : Command) × In c step × (goes_over (route_at routes c.route) z ≡ true) → (t : TrainNo) × ((e : Command) → In e step → goes_over (route_at routes e.route) z ≡ true → e.train ≡ t) × ((moved.train ≡ t) ⊎ (moved.left ≡ 0))
         found (c, m, has) = (c.train, same, left (is_train h.train c.train) refl)
           where
             clear : (is_stopped d routes c.train z before [] ≡ false) × (list_any (takes routes c.train z) step ≡ false)
             clear = not_before c z m has
 
-            same : (e : Command) → In e step → has_section (route_at routes e.route) z ≡ true → e.train ≡ c.train
+            same : (e : Command) → In e step → goes_over (route_at routes e.route) z ≡ true → e.train ≡ c.train
             same e k its = at (is_train e.train c.train) refl
               where
                 at : (b : Bool) → is_train e.train c.train ≡ b → e.train ≡ c.train
                 at true f = same_train e.train c.train f
-                at false f = absurd (true≢false (sym (list_any_from (takes routes c.train z) step e k (and_both (not (is_train e.train c.train)) (has_section (route_at routes e.route) z) (ap not f) its)) ∙ clear.1))
+                at false f = absurd (true≢false (sym (list_any_from (takes routes c.train z) step e k (and_both (not (is_train e.train c.train)) (has_section (route_at routes e.route) z) (ap not f) (over_has (route_at routes e.route) z its))) ∙ clear.1))
 
             left : (b : Bool) → is_train h.train c.train ≡ b → (h.train ≡ c.train) ⊎ (moved.left ≡ 0)
             left true f = inl (same_train h.train c.train f)
@@ -268,9 +268,9 @@ module _ (d : Station) (routes : List Route) (long : (t : TrainNo) → IsTrain d
                 none true k = eqb-true h.left 0 k
                 none false k = absurd (true≢false (sym (and_both (not (is_train h.train c.train)) (not (h.left == 0)) (ap not f) (ap not k)) ∙ kept))
 
-        go : (b : Bool) → list_any (λ (e : Command). has_section (route_at routes e.route) z) step ≡ b → (t : TrainNo) × ((e : Command) → In e step → has_section (route_at routes e.route) z ≡ true → e.train ≡ t) × ((moved.train ≡ t) ⊎ (moved.left ≡ 0))
-        go true k = found (list_any_gives (λ (e : Command). has_section (route_at routes e.route) z) step k)
-        go false k = (h.train, (λ e m has. absurd (true≢false (sym (list_any_from (λ (x : Command). has_section (route_at routes x.route) z) step e m has) ∙ k))), inl refl)
+        go : (b : Bool) → list_any (λ (e : Command). goes_over (route_at routes e.route) z) step ≡ b → (t : TrainNo) × ((e : Command) → In e step → goes_over (route_at routes e.route) z ≡ true → e.train ≡ t) × ((moved.train ≡ t) ⊎ (moved.left ≡ 0))
+        go true k = found (list_any_gives (λ (e : Command). goes_over (route_at routes e.route) z) step k)
+        go false k = (h.train, (λ e m has. absurd (true≢false (sym (list_any_from (λ (x : Command). goes_over (route_at routes x.route) z) step e m has) ∙ k))), inl refl)
 
     turned_lacks : (u : TrainNo) → lack d routes z u (before ++ step ∷ []) ≡ lacks (turned d routes z step h) u
     turned_lacks u =

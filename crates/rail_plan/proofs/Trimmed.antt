@@ -9,7 +9,7 @@ use Rattle.rail_base.specs.declared.station.TrainNo.{TrainNo}
 use Rattle.rail_base.specs.declared.route.Route.{Route}
 use Rattle.rail_base.specs.declared.route.RouteNo.{RouteNo}
 use Rattle.rail_base.specs.declared.plan.Command.{Command}
-use Rattle.rail_base.specs.Stations.{trains, train_of, train_length, IsTrain}
+use Rattle.rail_base.specs.Stations.{trains, train_of}
 use Rattle.rail_spec.specs.Plans.{is_command, is_path, commands, contend, one_each, route_at, routes_given, path, path_routes, step_of}
 use Rattle.rail_spec.specs.Feasible.{is_of, names_only, IsRunnable, IsWellFormed}
 use Rattle.rail_plan.specs.Earlier.{delay, IsAsGood}
@@ -75,7 +75,7 @@ pub trimmed_delay : (plan : List (List Command)) → delay (plan ++ [] ∷ []) �
 trimmed_delay [] = refl
 trimmed_delay (s ∷ ss) = let many = ap length (same_commands ss) in let rest = trimmed_delay ss in omega arith
 
-module _ (d : Station) (routes : List Route) (long : (t : TrainNo) → IsTrain d t → 1 ≤ train_length d t) where
+module _ (d : Station) (routes : List Route) where
   shorter_is_as_good : (plan : List (List Command)) → IsAsGood d routes (plan ++ [] ∷ []) plan
   shorter_is_as_good plan = record {
     runnable = runs;
@@ -110,8 +110,8 @@ module _ (d : Station) (routes : List Route) (long : (t : TrainNo) → IsTrain d
       runs : (n : ℕ) → IsRunnable d routes n (plan ++ [] ∷ []) → IsRunnable d routes n plan
       runs n r = record {
         well_formed = formed n r;
-        executable = plan_of_free d routes long plan (names r.well_formed.named) (paths n r)
-            (free_front d routes [] plan ([] ∷ []) (free_of_plan d routes long (plan ++ [] ∷ []) r.well_formed.named (paths_of_formed d routes (plan ++ [] ∷ []) n r.well_formed.formed) r.executable));
+        executable = plan_of_free d routes plan (names r.well_formed.named) (paths n r)
+            (free_front d routes [] plan ([] ∷ []) (free_of_plan d routes (plan ++ [] ∷ []) r.well_formed.named (paths_of_formed d routes (plan ++ [] ∷ []) n r.well_formed.formed) r.executable));
       }
 
   -- and so is it without more of them

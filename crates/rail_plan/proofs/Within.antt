@@ -1,26 +1,33 @@
 -- The sections of a route are those of the station.
-use Rattle.std.proofs.Common.{◌≡◌, ℕ, suc, ◌+◌, ◌≤◌, ◌<◌, ◌⊎◌, inl, inr, ℤ, Bool, true, ◌&&◌, ◌==◌, nat_le, List, [], ◌∷◌, map, length, get_or, sym, subst, arith, eqb-true, le_trans}
+use Rattle.std.proofs.Common.{◌≡◌, ℕ, suc, ◌+◌, ◌≤◌, ◌<◌, ◌⊎◌, inl, inr, ℤ, Bool, true, ◌&&◌, ◌==◌, nat_le, List, [], ◌∷◌, map, length, get_or, Option, Some, None, refl, sym, subst, arith, eqb-true, le_trans}
+use Rattle.std.specs.Prelude.{find, unwrap_or}
 use Rattle.std.specs.List.{list_all}
 use Rattle.rail_base.specs.declared.station.Station.{Station}
 use Rattle.rail_base.specs.declared.station.EdgeNo.{EdgeNo}
 use Rattle.rail_base.specs.declared.station.SectionNo.{SectionNo}
+use Rattle.rail_base.specs.declared.station.Overlap.{Overlap}
 use Rattle.rail_base.specs.declared.route.Route.{Route}
 use Rattle.rail_base.specs.declared.route.RouteNo.{RouteNo}
+use Rattle.rail_base.specs.declared.route.OverlapSection.{OverlapSection}
+use Rattle.rail_base.specs.declared.route.Finish.{Finish}
+use Rattle.rail_base.specs.declared.route.Finish.TheVariants as finish
 use Rattle.rail_base.specs.declared.station.Edge.{Edge}
 use Rattle.rail_base.specs.Admission.{are_apart, are_few, are_named, are_numbered, is_admitted, is_good_edge, is_good_node, is_good_signal, is_sound_track, is_sound_traffic, are_sound_overlaps, is_timed}
 use Rattle.rail_base.specs.Admitted.{IsAdmitted}
 use Rattle.rail_base.specs.Members.{In, all_pairs}
 use Rattle.rail_base.specs.Numbering.{one_to}
 use Rattle.rail_base.specs.Routes.{no_route, route_at}
-use Rattle.rail_base.specs.Stations.{section_of}
+use Rattle.rail_base.specs.Stations.{IsSection, no_overlap, section_of}
 use Rattle.rail_base.proofs.Admitting.{admitted}
 use Rattle.rail_base.proofs.Contained.{in_at}
 use Rattle.rail_base.proofs.Lists.{in_map, in_map_back}
 use Rattle.rail_base.proofs.Members.{and_left, and_right, either}
-use Rattle.rail_spec.specs.Track.{first_occurrences, routes_of}
+use Rattle.rail_spec.specs.Track.{end_overlap, first_occurrences, routes_of}
 use Rattle.rail_laws.proofs.Admits.{entry_is}
 use Rattle.rail_laws.proofs.RouteLaws.{route_is, walk_edges}
 use Rattle.rail_laws.proofs.AsEdges.{first_in, told}
+use Rattle.rail_laws.proofs.Beside.{beside}
+use Rattle.rail_laws.proofs.Verdicts.{found_in}
 use Rattle.interlocking.specs.declared.railway.Interlocking.{Interlocking}
 
 module _ (i : Interlocking) where
@@ -30,25 +37,50 @@ module _ (i : Interlocking) where
   adm : IsAdmitted station
   adm = admitted station i.design.admitted
 
-  sections_within : (r : RouteNo) (p : SectionNo × ℤ) → In p (route_at i.routes r).sections → (1 ≤ p.0.0) × (p.0.0 ≤ length station.sections)
-  sections_within r = subst (λ rs. (p : SectionNo × ℤ) → In p (route_at rs r).sections → (1 ≤ p.0.0) × (p.0.0 ≤ length station.sections)) (sym i.table)
-      (entry_is (λ (q : Route). (p : SectionNo × ℤ) → In p q.sections → (1 ≤ p.0.0) × (p.0.0 ≤ length station.sections)) no_route (routes_of station) r.0 (λ p m. absurd m) of_route)
+  sections_within : (r : RouteNo) (p : SectionNo × ℤ) → In p (route_at i.routes r).sections → IsSection station p.0
+  sections_within r = subst (λ rs. (p : SectionNo × ℤ) → In p (route_at rs r).sections → IsSection station p.0) (sym i.table)
+      (entry_is (λ (q : Route). (p : SectionNo × ℤ) → In p q.sections → IsSection station p.0) no_route (routes_of station) r.0 (λ p m. absurd m) of_route)
     where
-      of_route : (q : Route) → In q (routes_of station) → (p : SectionNo × ℤ) → In p q.sections → (1 ≤ p.0.0) × (p.0.0 ≤ length station.sections)
+      of_route : (q : Route) → In q (routes_of station) → (p : SectionNo × ℤ) → In p q.sections → IsSection station p.0
       of_route q m p k =
           let first : In p.0 (first_occurrences (map (section_of station) q.edges)) = subst (In p.0) (told station adm q m).sections_are (in_map (λ (x : SectionNo × ℤ). x.0) q.sections p k) in
           at (in_map_back (section_of station) q.edges p.0 (first_in (map (section_of station) q.edges) p.0 first))
         where
-          at : ((e : EdgeNo) × In e q.edges × (section_of station e ≡ p.0)) → (1 ≤ p.0.0) × (p.0.0 ≤ length station.sections)
+          at : ((e : EdgeNo) × In e q.edges × (section_of station e ≡ p.0)) → IsSection station p.0
           at (e, n, same) =
               let l = (route_is station adm q m).elementary in
-              subst (λ (z : SectionNo). (1 ≤ z.0) × (z.0 ≤ length station.sections)) same (adm.edge e (walk_edges station l.end q.edges l.walk e n)).section
+              subst (IsSection station) same (adm.edge e (walk_edges station l.end q.edges l.walk e n)).section
+
+  -- so are those of an overlap
+  of_overlap : (f : Finish) (z : SectionNo) → In z (end_overlap station f).sections → IsSection station z
+  of_overlap (finish.Signal s) z m = go (find test station.overlaps) refl m
+    where
+      test : Overlap → Bool
+      test o = o.signal.0 == s.0
+
+      go : (o : Option Overlap) → find test station.overlaps ≡ o → In z (unwrap_or o no_overlap).sections → IsSection station z
+      go None e k = absurd k
+      go (Some o) e k = (adm.overlap o (found_in test station.overlaps o e)).there z k
+  of_overlap (finish.Exit n) z m = absurd m
+  of_overlap (finish.DeadEnd n) z m = absurd m
+
+  overlaps_within : (r : RouteNo) (p : OverlapSection) → In p (route_at i.routes r).overlaps → IsSection station p.section
+  overlaps_within r = subst (λ rs. (p : OverlapSection) → In p (route_at rs r).overlaps → IsSection station p.section) (sym i.table)
+      (entry_is (λ (q : Route). (p : OverlapSection) → In p q.overlaps → IsSection station p.section) no_route (routes_of station) r.0 (λ p m. absurd m)
+      (λ q m p k. of_overlap q.finish p.section ((beside station adm q m).listed p k)))
 
   -- a part by its place in the route
   pub part_within : (r : RouteNo) (parts : List (SectionNo × ℤ)) (k : ℕ) (other : SectionNo × ℤ) → parts ≡ (route_at i.routes r).sections → k < length parts → (n : ℕ) → length station.sections ≤ n
       → (1 ≤ (get_or parts k other).0.0) × ((get_or parts k other).0.0 ≤ n)
   part_within r parts k other same less n many =
       let in_station = sections_within r (get_or parts k other) (subst (In (get_or parts k other)) same (in_at parts k other less)) in
+      (in_station.0, le_trans in_station.1 many)
+
+  -- and one of the overlap
+  pub part_beside_within : (r : RouteNo) (parts : List OverlapSection) (k : ℕ) (other : OverlapSection) → parts ≡ (route_at i.routes r).overlaps → k < length parts → (n : ℕ) → length station.sections ≤ n
+      → (1 ≤ (get_or parts k other).section.0) × ((get_or parts k other).section.0 ≤ n)
+  part_beside_within r parts k other same less n many =
+      let in_station = overlaps_within r (get_or parts k other) (subst (In (get_or parts k other)) same (in_at parts k other less)) in
       (in_station.0, le_trans in_station.1 many)
 
 -- ---- how many sections there are

@@ -8,8 +8,9 @@ use Rattle.rail_base.specs.declared.station.SectionNo.{SectionNo}
 use Rattle.rail_base.specs.declared.route.Route.{Route}
 use Rattle.rail_base.specs.declared.plan.Command.{Command}
 use Rattle.rail_base.specs.Stations.{train_length, trains}
-use Rattle.rail_spec.specs.Plans.{is_train, route_at, length_mm, sections, has_section, release_offset, exits}
+use Rattle.rail_spec.specs.Plans.{is_train, route_at, length_mm, sections, goes_over, release_offset, exits}
 use Rattle.rail_spec.specs.Plans.{path_routes}
+use Rattle.rail_plan.specs.Holds.{takes}
 use Rattle.rail_plan.specs.declared.place.PlanPlace.{PlanPlace}
 use Rattle.rail_plan.specs.declared.place.PlanPlace.TheVariants as place
 
@@ -20,14 +21,14 @@ clears d routes between e z =
     nat_le (release_offset (route_at routes e.route) z + train_length d e.train) (sum_by length_mm given)
     || list_any exits given
 
--- e is for another train, has the section and is not so given
+-- e is for another train, goes over the section and is not so given
 abbrev pub stops : Station → List Route → List (List Command) → TrainNo → SectionNo → Command → Bool
-stops d routes between t z e = not (is_train e.train t) && has_section (route_at routes e.route) z
+stops d routes between t z e = not (is_train e.train t) && goes_over (route_at routes e.route) z
     && not (clears d routes between e z)
 
--- a command of the step, or of one of those before it, so stops the train
+-- a command of the step has the section, or one of those before it so stops the train
 abbrev pub is_stopped : Station → List Route → TrainNo → SectionNo → List (List Command) → List Command → Bool
-is_stopped d routes t z [] step = list_any (stops d routes [] t z) step
+is_stopped d routes t z [] step = list_any (takes routes t z) step
 is_stopped d routes t z (s ∷ ss) step = list_any (stops d routes (s ∷ ss) t z) s || is_stopped d routes t z ss step
 
 -- the sections of c's route over which it is stopped

@@ -8,16 +8,18 @@ use Rattle.rail_base.specs.declared.route.Route.{Route}
 use Rattle.rail_base.specs.declared.plan.Command.{Command}
 use Rattle.rail_base.specs.Numbering.{entry, one_to}
 use Rattle.rail_base.specs.Stations.{trains}
-use Rattle.rail_spec.specs.Plans.{is_train, route_at, sections, has_section, commands, step_of, can_clear}
+use Rattle.rail_spec.specs.Plans.{is_train, route_at, sections, has_section, goes_over, commands, step_of, can_clear}
 use Rattle.rail_plan.specs.declared.place.PlanPlace.{PlanPlace}
 use Rattle.rail_plan.specs.declared.place.PlanPlace.TheVariants as place
 
--- e keeps c from the section: it has it too, for another train, in c's step, or in an earlier one and can't clear it for c
+-- e, for another train, keeps c from the section: it has it too in c's step, or goes over it in an earlier one and
+-- can't clear it for c
 abbrev pub keeps_from : Station → List Route → List (List Command) → Command → SectionNo → Command → Bool
 keeps_from d routes plan c z e =
-    not (is_train e.train c.train) && has_section (route_at routes e.route) z
-    && ((step_of plan e == step_of plan c)
-    || (nat_lt (step_of plan e) (step_of plan c) && not (can_clear d routes plan e c z)))
+    let r = route_at routes e.route in
+    not (is_train e.train c.train)
+    && ((has_section r z && (step_of plan e == step_of plan c))
+    || (goes_over r z && nat_lt (step_of plan e) (step_of plan c) && not (can_clear d routes plan e c z)))
 
 -- the sections, in the order of c's route, from which a command of the plan keeps it
 abbrev pub blocked_sections : Station → List Route → List (List Command) → Command → List SectionNo

@@ -9,8 +9,8 @@ use Rattle.rail_base.specs.declared.route.Route.{Route}
 use Rattle.rail_base.specs.declared.plan.Command.{Command}
 use Rattle.rail_base.specs.Numbering.{entry}
 use Rattle.rail_base.specs.Stations.{train_length}
-use Rattle.rail_spec.specs.Plans.{is_train, route_at, length_mm, sections, has_section, release_offset, exits}
-use Rattle.rail_spec.specs.Plans.{routes_given, path_routes}
+use Rattle.rail_spec.specs.Plans.{is_train, route_at, length_mm, sections, has_section, goes_over, release_offset}
+use Rattle.rail_spec.specs.Plans.{exits, routes_given, path_routes}
 use Rattle.rail_plan.specs.declared.holds.Hold.{Hold}
 
 -- how much of this length is left after the routes: nothing where one of them exits
@@ -91,7 +91,7 @@ module _ (d : Station) (routes : List Route) where
   module _ (z : SectionNo) (t : TrainNo) where
     -- how much track the train lacks to leave the section after a command, where it is given these routes from the command on
     abbrev pub lack_of : List Route → Command → ℕ
-    lack_of given e = if is_train e.train t && has_section (route_at routes e.route) z
+    lack_of given e = if is_train e.train t && goes_over (route_at routes e.route) z
         then rest_after (release_offset (route_at routes e.route) z + train_length d t) given
         else 0
 

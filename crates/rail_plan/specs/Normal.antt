@@ -8,8 +8,8 @@ use Rattle.rail_base.specs.declared.plan.Command.{Command}
 use Rattle.rail_base.specs.Members.{In}
 use Rattle.rail_base.specs.Numbering.{entry}
 use Rattle.rail_base.specs.Stations.{train_length}
-use Rattle.rail_spec.specs.Plans.{is_train, route_at, length_mm, shared, release_offset, exits, commands, step_of, contend}
-use Rattle.rail_spec.specs.Plans.{precedes}
+use Rattle.rail_spec.specs.Plans.{is_train, route_at, length_mm, own_shared, release_offset, exits, commands}
+use Rattle.rail_spec.specs.Plans.{contend, precedes, step_of}
 
 -- the commands of e's train from e on, in steps before this one
 abbrev pub given_before : List (List Command) → Command → ℕ → List Command
@@ -28,10 +28,10 @@ module _ (d : Station) (routes : List Route) (plan : List (List Command)) where
       nat_le (release_offset (route_at routes e.route) z + train_length d e.train) (sum_by length_mm given)
       || list_any exits given
 
-  -- e precedes c, and before this step can't clear all the sections that they share
+  -- e precedes c, and before this step can't clear all its own sections that they share
   abbrev pub is_in_the_way : ℕ → Command → Command → Bool
   is_in_the_way n c e = precedes routes plan e c
-      && not (list_all (can_clear_by n e) (shared (route_at routes e.route) (route_at routes c.route)))
+      && not (list_all (can_clear_by n e) (own_shared (route_at routes e.route) (route_at routes c.route)))
 
   -- c can't stand in the step before its own: one of that step excludes it, or another command is in the way there
   abbrev pub is_held : Command → Bool

@@ -1,11 +1,11 @@
 //! Whether a plan can be carried out.
 
-ghost use Rattle.std.specs.Prelude.{◌≡◌, ◌↔◌, ℕ, ◌≤◌, true, false, IsNone, length};
+ghost use Rattle.std.specs.Prelude.{◌≡◌, ◌↔◌, ℕ, ◌≤◌, true, false, IsNone, filter, length, map};
 ghost use Rattle.std.specs.List.{list_any};
 ghost use Rattle.rail_base.specs.Numbering.{first_of_list};
-ghost use Rattle.rail_base.specs.Routes.{IsRoute};
+ghost use Rattle.rail_base.specs.Routes.{IsRoute, own_sections, route_at};
 ghost use Rattle.rail_spec.specs.Plans.{contend, one_each};
-ghost use Rattle.rail_plan.specs.Named.{HaveRoutes, HaveTrains};
+ghost use Rattle.rail_plan.specs.Named.{HaveRoutes};
 ghost use Rattle.interlocking.specs.Plans.{is_executable, IsWellFormed};
 ghost use Rattle.rail_plan.specs.Interlocked.{AreHolds, blocked, kept_sections, is_kept_from, stopped, stopped_in};
 ghost use Rattle.rail_plan.specs.Interlocked.{takes};
@@ -43,7 +43,7 @@ fn is_contended(interlocking: &Interlocking, step: &List<Command>, command: Comm
     false
 }
 
-/// Whether a step gives another train a route over a section.
+/// Whether a step gives another train a route that has a section.
 fn is_taken(
     interlocking: &Interlocking,
     step: &List<Command>,
@@ -86,6 +86,59 @@ fn is_kept_from(
     is_taken(interlocking, step, train, section)
 }
 
+/// The first section that its route goes over from which the holds or the commands of its step keep a command.
+fn kept_own_section(
+    interlocking: &Interlocking,
+    holds: &[Hold],
+    step: &List<Command>,
+    contended: bool,
+    command: Command,
+) -> Option<SectionNo>
+    requires every_section { length interlocking.now.design.station.sections ≤ length holds.now }
+    requires step { HaveRoutes interlocking.now.routes step.now }
+    requires contended { contended ≡ list_any (λ other. contend interlocking.now.routes other command) step.now }
+    requires route { IsRoute interlocking.now.routes command.route }
+    ensures { result ≡ first_of_list (filter (is_kept_from interlocking.now holds.now step.now command.train)
+        (own_sections (route_at interlocking.now.routes command.route))) }
+{
+    for part in route_at(&interlocking.routes, command.route)
+        .sections
+        .as_slice()
+    {
+        if is_kept_from(interlocking, holds, step, contended, command.train, part.0) {
+            return Some(part.0);
+        }
+    }
+    None
+}
+
+/// The first section of the overlap at its route's end from which they keep it.
+fn kept_overlap_section(
+    interlocking: &Interlocking,
+    holds: &[Hold],
+    step: &List<Command>,
+    contended: bool,
+    command: Command,
+) -> Option<SectionNo>
+    requires every_section { length interlocking.now.design.station.sections ≤ length holds.now }
+    requires step { HaveRoutes interlocking.now.routes step.now }
+    requires contended { contended ≡ list_any (λ other. contend interlocking.now.routes other command) step.now }
+    requires route { IsRoute interlocking.now.routes command.route }
+    ensures { result ≡ first_of_list (filter (is_kept_from interlocking.now holds.now step.now command.train)
+        (map (λ p. p.section) (route_at interlocking.now.routes command.route).overlaps)) }
+{
+    for part in route_at(&interlocking.routes, command.route)
+        .overlaps
+        .as_slice()
+    {
+        let section = part.section;
+        if is_kept_from(interlocking, holds, step, contended, command.train, section) {
+            return Some(section);
+        }
+    }
+    None
+}
+
 /// The first section, in the order of its route, from which the holds or the commands of its step keep a command.
 pub(crate) fn kept_section(
     interlocking: &Interlocking,
@@ -99,15 +152,11 @@ pub(crate) fn kept_section(
     ensures { result ≡ first_of_list (kept_sections interlocking.now holds.now step.now command) }
 {
     let contended = is_contended(interlocking, step, command);
-    for part in route_at(&interlocking.routes, command.route)
-        .sections
-        .as_slice()
-    {
-        if is_kept_from(interlocking, holds, step, contended, command.train, part.0) {
-            return Some(part.0);
-        }
+    let own = kept_own_section(interlocking, holds, step, contended, command);
+    if own.is_some() {
+        return own;
     }
-    None
+    kept_overlap_section(interlocking, holds, step, contended, command)
 }
 
 /// The first section over which the command that a step has for a train is stopped.
@@ -119,7 +168,6 @@ fn stopped_train(
     train: TrainNo,
 ) -> Option<PlanPlace>
     requires holds { AreHolds interlocking.now before.now holds.now }
-    requires trains { HaveTrains interlocking.now.design.station step.now }
     requires routes { HaveRoutes interlocking.now.routes step.now }
     requires each_once { one_each step.now ≡ true }
     ensures { result ≡ first_of_list (stopped_in interlocking.now before.now step.now train) }
@@ -141,7 +189,6 @@ fn stopped_step(
     step: &List<Command>,
 ) -> Option<PlanPlace>
     requires holds { AreHolds interlocking.now before.now holds.now }
-    requires trains { HaveTrains interlocking.now.design.station step.now }
     requires routes { HaveRoutes interlocking.now.routes step.now }
     requires each_once { one_each step.now ≡ true }
     ensures { result ≡ first_of_list (stopped interlocking.now before.now step.now) }

@@ -153,7 +153,7 @@ fn offset_of(part: &(SectionNo, i64)) -> u64
     part.1.unsigned_abs()
 }
 
-/// The train of a command takes the sections of the command's route.
+/// The train of a command takes the sections that the command's route goes over.
 fn take_route(interlocking: &Interlocking, holds: &mut [Hold], command: Command)
     requires every_section { length interlocking.now.design.station.sections ≤ length holds.old }
     requires train { IsTrain interlocking.now.design.station command.train }

@@ -19,7 +19,7 @@ use Rattle.rail_spec.specs.Visits.{pass_tick, path_nodes_of_train, visits_of_tra
 use Rattle.rail_spec.specs.Visits as visits
 use Rattle.rail_spec.specs.Requirements.{granted_by, visited_by}
 use Rattle.rail_spec.specs.Requirements as requirements
-use Rattle.rail_spec.specs.Histories.{history_at, train_history, visit_made, granted}
+use Rattle.rail_spec.specs.Histories.{history_at, train_history, visit_made}
 use Rattle.rail_spec.specs.Histories as histories
 use Rattle.rail_spec.specs.Places.{visits_at, visits_on}
 use Rattle.rail_laws.proofs.Exclusion.{run_later}
@@ -147,7 +147,7 @@ module _ (d : Station) (routes : List Route) (plan : List (List Command)) where
         go : (n : ℕ) → 1 ≤ n → n ≤ length d.trains → history_of (history_at d routes plan k) (record { 0 = n }) ≡ train_history d routes plan k (record { 0 = n })
         go zero low high = absurd (omega arith)
         go (suc i) low high =
-            let other : TrainHistory = record { grants = []; passes = []; releases = []; visits = []; dwells = [] } in
+            let other : TrainHistory = record { grants = []; passes = []; releases = []; holds = []; visits = []; dwells = [] } in
             ap (λ xs. get_or xs i other) (map-map (train_history d routes plan k) (λ n. record { 0 = n }) (one_to (length d.trains)))
             ∙ get_or-counted (λ n. train_history d routes plan k (record { 0 = n })) 1 (length d.trains) i other (omega arith)
             ∙ ap (λ n. train_history d routes plan k (record { 0 = n })) (let e : 1 + i ≡ suc i = omega arith in e)

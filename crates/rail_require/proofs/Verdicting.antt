@@ -16,7 +16,7 @@ use Rattle.rail_base.specs.Stations.{train_of, horizon}
 use Rattle.rail_base.proofs.Members.{below_or_not, not_less}
 use Rattle.rail_spec.specs.Visits.{path_nodes_of_train, visits_of_train}
 use Rattle.rail_spec.specs.Plans.{has_node}
-use Rattle.rail_spec.specs.Dispatches.{of_plan, tick, state_at}
+use Rattle.rail_spec.specs.Dispatches.{of_plan, tick, pasts_at}
 use Rattle.rail_spec.specs.Requirements.{is_certain, is_decided, violation_at, path_violation, visit_numbers, cost}
 use Rattle.rail_spec.specs.Histories.{history_at, decided, verdict_of}
 use Rattle.rail_spec.specs.Places.{visits_at, visits_on}
@@ -112,9 +112,9 @@ path_later d routes plan t ts o found none =
 
 -- ---- states
 
-pub state_next : (d : Station) (routes : List Route) (plan : List (List Command)) (k : ℕ) → 1 ≤ k → tick d routes (of_plan routes plan) 0 (state_at d routes (of_plan routes plan) (k - 1)) ≡ state_at d routes (of_plan routes plan) k
-state_next d routes plan zero first = absurd (omega arith)
-state_next d routes plan (suc k) first = let less : suc k - 1 ≡ k = omega arith in ap (λ n. tick d routes (of_plan routes plan) 0 (state_at d routes (of_plan routes plan) n)) less
+pub pasts_next : (d : Station) (routes : List Route) (plan : List (List Command)) (k : ℕ) → 1 ≤ k → tick d routes (of_plan routes plan) k (pasts_at d routes (of_plan routes plan) (k - 1)) ≡ pasts_at d routes (of_plan routes plan) k
+pasts_next d routes plan zero first = absurd (omega arith)
+pasts_next d routes plan (suc k) first = let less : suc k - 1 ≡ k = omega arith in ap (λ n. tick d routes (of_plan routes plan) (suc k) (pasts_at d routes (of_plan routes plan) n)) less
 
 -- what is not decided before a tick nor at it
 pub undecided_to : (d : Station) (routes : List Route) (plan : List (List Command)) (k i : ℕ) → is_decided d routes plan k ≡ false → ((i : ℕ) → 1 ≤ i → i < k → is_decided d routes plan i ≡ false) → 1 ≤ i → i < k + 1 → is_decided d routes plan i ≡ false

@@ -13,7 +13,8 @@ use Rattle.rail_spec.specs.Histories.{history_at}
 
 -- what happened to the train of this number
 abbrev pub history_of : List TrainHistory → TrainNo → TrainHistory
-history_of history t = entry (record { grants = []; passes = []; releases = []; visits = []; dwells = [] }) history t.0
+history_of history t =
+    entry (record { grants = []; passes = []; releases = []; holds = []; visits = []; dwells = [] }) history t.0
 
 -- the numbers of the trains
 abbrev pub trains : List TrainHistory → List TrainNo

@@ -1,5 +1,5 @@
 -- Runs: the state after each tick, under whatever says which command waits for which.
-use Rattle.std.specs.Prelude.{ℕ, zero, suc, ◌+◌, Bool, true, false, ◌==◌, if◌then◌else◌, List, map, flat_map, length}
+use Rattle.std.specs.Prelude.{ℕ, zero, suc, ◌+◌, Bool, true, false, ◌==◌, if◌then◌else◌, List, [], ◌∷◌, map, flat_map, length}
 use Rattle.std.specs.Prelude.{take, slice_get, nat_le, nat_lt, Option, None, Some, option_map, sum_by}
 use Rattle.std.specs.List.{list_any, list_all}
 use Rattle.std.specs.Option.{option_or}
@@ -11,15 +11,15 @@ use Rattle.rail_base.specs.declared.route.Route.{Route}
 use Rattle.rail_base.specs.declared.route.RouteNo.{RouteNo}
 use Rattle.rail_base.specs.declared.plan.Command.{Command}
 use Rattle.rail_base.specs.declared.state.TrainState.{TrainState}
-use Rattle.rail_base.specs.declared.state.Event.{Event}
 use Rattle.rail_base.specs.declared.state.TrainEvent.{TrainEvent}
 use Rattle.rail_base.specs.declared.state.PathNode.{PathNode}
 use Rattle.rail_base.specs.Events.{has_happened}
 use Rattle.rail_base.specs.Numbering.{entry, before_first}
 use Rattle.rail_base.specs.Stations.{edge_of, train_of, train_length, vehicle_of, trains, per_tick_speed}
-use Rattle.rail_base.specs.Stations.{per_tick_accel, dwell_ticks}
+use Rattle.rail_base.specs.Stations.{per_tick_accel, dwell_ticks, whole_ticks}
 use Rattle.rail_spec.specs.Track.{edge_ends}
-use Rattle.rail_spec.specs.Plans.{path, preceding, route_at, shared, release_offset, length_mm, exits, is_route}
+use Rattle.rail_spec.specs.Plans.{path, preceding, route_at, shared, goes_over, release_offset, hold_ms, length_mm}
+use Rattle.rail_spec.specs.Plans.{exits, is_route}
 use Rattle.rail_spec.specs.Places.{path_nodes, visits_on, next_stop}
 use Rattle.rail_spec.specs.Motion.{MotorSeen, SpanSeen, next_speed}
 
@@ -35,9 +35,23 @@ with_granted n s = record { granted = n; x = s.x; v = s.v; stood = s.stood }
 abbrev pub state_of : List TrainState → TrainNo → TrainState
 state_of s t = entry idle s t.0
 
--- the event has come to its train
-abbrev pub has_come : List TrainState → TrainEvent → Bool
-has_come s e = has_happened (state_of s e.train) e.event
+-- what a train has been through: its states so far, the last first; a tick that does not concern it adds none
+
+-- its state so many of these ticks ago, and idle before all of them
+abbrev pub ago : ℕ → List TrainState → TrainState
+ago n past = entry idle past (suc n)
+
+-- what one train has been through, in the list of all trains' pasts
+abbrev pub past_of : List (List TrainState) → TrainNo → List TrainState
+past_of ps t = entry [] ps t.0
+
+-- the state of each train now
+abbrev pub now : List (List TrainState) → List TrainState
+now ps = map (ago 0) ps
+
+-- the event came to its train, so many ticks ago or more
+abbrev pub has_come : List (List TrainState) → TrainEvent → Bool
+has_come ps e = has_happened (ago e.ticks (past_of ps e.train)) e.event
 
 -- how far behind its head limits bind a train: in designs of version 1 they bind the head alone, from version 2 on until the
 -- tail has left
@@ -91,35 +105,46 @@ module _ (d : Station) (routes : List Route) (p : Dispatch) where
   abbrev pub is_granted : List TrainState → Command → Bool
   is_granted s c = nat_lt (length (routes_before c)) (state_of s c.train).granted
 
-  -- how a command releases a section: it is granted, and its train's tail reaches the section's release offset
-  abbrev pub release : Command → SectionNo → Event
-  release c z = record {
-    granted = suc (length (routes_before c));
-    place = sum_by length_mm (routes_before c) + release_offset (route_at routes c.route) z + train_length d c.train;
-  }
+  -- how a command releases an own section: it is granted, and its train's tail reaches the section's release offset
+  abbrev pub release_of_own : Command → SectionNo → TrainEvent
+  release_of_own c z =
+      let place = sum_by length_mm (routes_before c) + release_offset (route_at routes c.route) z + train_length d c.train in
+      record { train = c.train; event = record { granted = suc (length (routes_before c)); place = place }; ticks = 0 }
+
+  -- how it releases a section of its overlap: it is granted, its train's head comes to the route's end, and the section is
+  -- held on
+  abbrev pub release_of_overlap : Command → SectionNo → TrainEvent
+  release_of_overlap c z =
+      let place = sum_by length_mm (routes_before c) + length_mm (route_at routes c.route) in
+      let ticks = whole_ticks d (hold_ms (route_at routes c.route) z) in
+      record { train = c.train; event = record { granted = suc (length (routes_before c)); place = place }; ticks = ticks }
+
+  -- how it releases a section
+  abbrev pub release : Command → SectionNo → TrainEvent
+  release c z = if goes_over (route_at routes c.route) z then release_of_own c z else release_of_overlap c z
 
   -- it has released the section
-  abbrev pub has_released : List TrainState → Command → SectionNo → Bool
-  has_released s c z = has_happened (state_of s c.train) (release c z)
+  abbrev pub has_released : List (List TrainState) → Command → SectionNo → Bool
+  has_released ps c z = has_come ps (release c z)
 
   -- the second command has released every section that the two share
-  abbrev pub has_cleared : List TrainState → Command → Command → Bool
-  has_cleared s c e = list_all (has_released s e) (shared (route_at routes e.route) (route_at routes c.route))
+  abbrev pub has_cleared : List (List TrainState) → Command → Command → Bool
+  has_cleared ps c e = list_all (has_released ps e) (shared (route_at routes e.route) (route_at routes c.route))
 
   -- so has every command that this one waits for
-  abbrev pub is_ready : List TrainState → Command → Bool
-  is_ready s c = list_all (has_cleared s c) (p.before c)
+  abbrev pub is_ready : List (List TrainState) → Command → Bool
+  is_ready ps c = list_all (has_cleared ps c) (p.before c)
 
   -- how many commands of the train are granted after the tick, where this one is its next
-  abbrev pub granted_with : List TrainState → TrainNo → Option RouteNo → ℕ
-  granted_with s t None = (state_of s t).granted
-  granted_with s t (Some r) =
-      let granted = (state_of s t).granted in
-      if is_ready s (record { train = t; route = r }) then granted + 1 else granted
+  abbrev pub granted_with : List (List TrainState) → TrainNo → Option RouteNo → ℕ
+  granted_with ps t None = (state_of (now ps) t).granted
+  granted_with ps t (Some r) =
+      let granted = (state_of (now ps) t).granted in
+      if is_ready ps (record { train = t; route = r }) then granted + 1 else granted
 
   -- how many commands of the train are granted after the tick
-  abbrev pub granted_after : List TrainState → TrainNo → ℕ
-  granted_after s t = granted_with s t (slice_get (p.path t) (state_of s t).granted)
+  abbrev pub granted_after : List (List TrainState) → TrainNo → ℕ
+  granted_after ps t = granted_with ps t (slice_get (p.path t) (state_of (now ps) t).granted)
 
   -- the routes that a train is granted in a state
   abbrev pub granted_routes : TrainNo → TrainState → List Route
@@ -157,11 +182,16 @@ module _ (d : Station) (routes : List Route) (p : Dispatch) where
       let u = speed_in t s in
       record { granted = suc n; x = old.x + u; v = u; stood = stood_after t s }
 
-  -- a tick: all grants are seen against the old state, and then all trains that it concerns move
-  abbrev pub tick : ℕ → List TrainState → List TrainState
-  tick k s = map (λ t. if p.concerns k t then moved t (state_of s t) (granted_after s t) else state_of s t) (trains d)
+  -- a tick: all grants are seen against what has been, and then all trains that it concerns move
+  abbrev pub tick : ℕ → List (List TrainState) → List (List TrainState)
+  tick k ps = map (λ t. if p.concerns k t then moved t (state_of (now ps) t) (granted_after ps t) ∷ past_of ps t
+      else past_of ps t) (trains d)
+
+  -- what all trains have been through after so many ticks
+  abbrev pub pasts_at : ℕ → List (List TrainState)
+  pasts_at zero = map (λ t. idle ∷ []) (trains d)
+  pasts_at (suc k) = tick (suc k) (pasts_at k)
 
   -- the state after so many ticks
   abbrev pub state_at : ℕ → List TrainState
-  state_at zero = map (λ t. idle) (trains d)
-  state_at (suc k) = tick (suc k) (state_at k)
+  state_at k = now (pasts_at k)

@@ -15,11 +15,11 @@ use Rattle.rail_base.specs.declared.history.Verdict.{Verdict}
 use Rattle.rail_base.specs.declared.history.Verdict.TheVariants.{Met, Failed, Undecided}
 use Rattle.rail_base.specs.Numbering.{entry, least}
 use Rattle.rail_base.specs.Stations.{trains, dwell_ticks}
-use Rattle.rail_base.specs.Routes.{route_at, sections}
+use Rattle.rail_base.specs.Routes.{route_at, own_sections, held_sections}
 use Rattle.rail_spec.specs.Plans.{path}
 use Rattle.rail_base.specs.declared.state.PathNode.{PathNode}
-use Rattle.rail_spec.specs.Dispatches.{state_of, of_plan, release, state_at}
-use Rattle.rail_spec.specs.Visits.{happened_by, pass_tick, visits_of_train, passed}
+use Rattle.rail_spec.specs.Dispatches.{state_of, of_plan, has_released, pasts_at, state_at}
+use Rattle.rail_spec.specs.Visits.{pass_tick, visits_of_train, passed}
 use Rattle.rail_spec.specs.Requirements.{visit_numbers, granted_by, violation_at, path_violation, cost}
 
 -- how many ticks a train stands at its visits up to the one of this number
@@ -31,23 +31,29 @@ module _ (d : Station) (routes : List Route) (plan : List (List Command)) where
   abbrev pub grant_tick : ℕ → TrainNo → ℕ → Option ℕ
   grant_tick k t j = least (λ i. granted_by d routes plan i t j) k
 
-  -- the tick, up to k, at which a command has released a section
+  -- by the end of tick k a command has released a section
+  abbrev pub released_by : Command → SectionNo → ℕ → Bool
+  released_by c z k = let run = of_plan routes plan in has_released d routes run (pasts_at d routes run k) c z
+
+  -- the tick, up to k, at which it has
   abbrev pub release_tick : ℕ → Command → SectionNo → Option ℕ
-  release_tick k c z =
-      let run = of_plan routes plan in least (happened_by d routes run c.train (release d routes run c z)) k
+  release_tick k c z = least (released_by c z) k
 
   -- the commands of the train's path with the ticks, up to k, at which they are granted
   abbrev pub granted : ℕ → TrainNo → List (RouteNo × Option ℕ)
   granted k t = map (λ p. (p.1, grant_tick k t p.0)) (enumerate_from 1 (path plan t))
 
-  -- the sections of a route of the path with the ticks, up to k, at which they are released
-  abbrev pub released_of : ℕ → TrainNo → RouteNo → List (RouteNo × SectionNo × Option ℕ)
-  released_of k t r =
-      map (λ z. (r, z, release_tick k (record { train = t; route = r }) z)) (sections (route_at routes r))
+  -- these sections of a route of the path with the ticks, up to k, at which they are released
+  abbrev pub released_of : ℕ → TrainNo → RouteNo → List SectionNo → List (RouteNo × SectionNo × Option ℕ)
+  released_of k t r zs = map (λ z. (r, z, release_tick k (record { train = t; route = r }) z)) zs
 
-  -- those of each route of the path
+  -- those that each route of the path goes over
   abbrev pub released : ℕ → TrainNo → List (RouteNo × SectionNo × Option ℕ)
-  released k t = flat_map (released_of k t) (path plan t)
+  released k t = flat_map (λ r. released_of k t r (own_sections (route_at routes r))) (path plan t)
+
+  -- those of the overlap at its end
+  abbrev pub held_on : ℕ → TrainNo → List (RouteNo × SectionNo × Option ℕ)
+  held_on k t = flat_map (λ r. released_of k t r (held_sections (route_at routes r))) (path plan t)
 
   -- where a visit is made, with the tick, up to k
   abbrev pub visit_made : ℕ → TrainNo → Option PathNode → Option (NodeNo × ℕ)
@@ -69,6 +75,7 @@ module _ (d : Station) (routes : List Route) (plan : List (List Command)) where
     grants = granted k t;
     passes = passed d routes (of_plan routes plan) k t;
     releases = released k t;
+    holds = held_on k t;
     visits = map (visit_made k t) (visits_of_train d routes (of_plan routes plan) t);
     dwells = map (dwell_tick k t) (visit_numbers d t);
   }

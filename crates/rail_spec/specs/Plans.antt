@@ -18,8 +18,8 @@ use Rattle.rail_base.specs.declared.plan.Command.{Command}
 use Rattle.rail_base.specs.Numbering.{one_to}
 use Rattle.rail_base.specs.Members.{all_pairs, all_neighbors}
 use Rattle.rail_base.specs.Stations.{train_of, train_length, trains, first_visit}
-pub use Rattle.rail_base.specs.Routes.{no_route, route_at, length_mm, sections, has_section, shared, share}
-pub use Rattle.rail_base.specs.Routes.{release_offset, exits}
+pub use Rattle.rail_base.specs.Routes.{no_route, route_at, length_mm, sections, own_sections, has_section, goes_over}
+pub use Rattle.rail_base.specs.Routes.{shared, own_shared, share, release_offset, hold_ms, exits}
 
 -- ---- commands and their order
 
@@ -141,20 +141,21 @@ abbrev pub given_between : List (List Command) → Command → Command → List 
 given_between plan d c = filter (λ e. is_train e.train d.train
     && nat_le (step_of plan d) (step_of plan e) && nat_lt (step_of plan e) (step_of plan c)) (commands plan)
 
--- before c is given, d's train has been given so much track that it can leave the section
+-- before c is given, d's train has been given so much track that it can leave the section, an own one of d
 abbrev pub can_clear : Station → List Route → List (List Command) → Command → Command → SectionNo → Bool
 can_clear d routes plan e c z =
     let given = map (λ g. route_at routes g.route) (given_between plan e c) in
     nat_le (release_offset (route_at routes e.route) z + train_length d e.train) (sum_by length_mm given)
     || list_any exits given
 
--- commands of different trains that share a section stand in different steps, and each can clear the sections for those after it
+-- commands of different trains that share a section stand in different steps, and each can leave its own sections for those
+-- after it; the sections of its overlap need no track, since a train always comes to the end of its route
 abbrev pub may_stand : Station → List Route → List (List Command) → Command → Command → Bool
 may_stand d routes plan e c =
     let r = route_at routes e.route in
     let q = route_at routes c.route in
     is_train e.train c.train || not (share r q) || nat_lt (step_of plan c) (step_of plan e)
-    || (nat_lt (step_of plan e) (step_of plan c) && list_all (can_clear d routes plan e c) (shared r q))
+    || (nat_lt (step_of plan e) (step_of plan c) && list_all (can_clear d routes plan e c) (own_shared r q))
 
 -- every two commands of the plan may stand as they do
 abbrev pub is_executable : Station → List Route → List (List Command) → Bool

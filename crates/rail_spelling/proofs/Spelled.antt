@@ -59,8 +59,8 @@ unfolding unless_from
 exact low high z place fits h = in_range low high z fits (passes (int_le (pos low) z && int_le z (pos high)) place h)
 
 -- the number of an admitted version
-version_kept : (n : ℕ) → n ≤ 3 → version_number (pos n) ≡ n
-version_kept n most = go (nat_le n 3) (grind arith)
+version_kept : (n : ℕ) → n ≤ 4 → version_number (pos n) ≡ n
+version_kept n most = go (nat_le n 4) (grind arith)
   where
     go : (b : Bool) → b ≡ true → (if b then n else 0) ≡ n
     go b e = rw e refl

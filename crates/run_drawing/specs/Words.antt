@@ -79,9 +79,10 @@ run_words d verdict =
 
 -- ---- how many shapes
 
--- for a train its line, two shapes for each visit and one more where it stands, and two for each section of each of its routes
+-- for a train its line, two shapes for each visit, one more where it stands, and two for each section that it is given
 abbrev pub train_size : TrainHistory → ℕ
-train_size train = 1 + 2 * length train.visits + length train.dwells + 2 * length train.releases
+train_size train =
+    1 + 2 * length train.visits + length train.dwells + 2 * length train.releases + 2 * length train.holds
 
 -- for all trains
 abbrev pub history_size : List TrainHistory → ℕ

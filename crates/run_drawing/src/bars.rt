@@ -6,7 +6,7 @@ ghost use Rattle.drawing.specs.Drawing.{words_in};
 use crate::axes::put_rule;
 use crate::scale::{CHARACTER, LINE, Scale};
 use crate::trains::train_color;
-use drawing::{Anchor, Color, Picture, Point, put_bar, put_note, put_words};
+use drawing::{Anchor, Color, Picture, Point, put_bar, put_frame, put_note, put_words};
 use rail_base::history::TrainHistory;
 use rail_base::list::Name;
 use rail_base::route::RouteNo;
@@ -38,7 +38,7 @@ pub(crate) fn put_rows(
 }
 
 /// Appends a bar for each section that the train of a number is given, from the grant to the release, or to the last
-/// tick.
+/// tick: a filled one where its route goes over the section, and an empty one where the section is of an overlap.
 pub(crate) fn put_holdings(
     alloc: Global,
     picture: &mut Picture,
@@ -48,15 +48,46 @@ pub(crate) fn put_holdings(
     history: &TrainHistory,
 ) -> Result<(), AllocError>
     ensures words { OnOk result (words_in picture.new ≡ words_in picture.old) }
-    ensures size { OnOk result (length picture.new ≤ length picture.old + 2 * length history.now.releases) }
+    ensures size { let h = history.now in
+        OnOk result (length picture.new ≤ length picture.old + 2 * length h.releases + 2 * length h.holds) }
 {
-    for (route, section, tick) in history.releases.as_slice() {
-        if let Some(from) = grant_of(history.grants.as_slice(), *route) {
+    let color = train_color(train);
+    let grants = history.grants.as_slice();
+    let own = history.releases.as_slice();
+    put_bars(alloc, picture, scale, Bar::Filled(color), name, grants, own)?;
+    let held = history.holds.as_slice();
+    put_bars(alloc, picture, scale, Bar::Empty(color), name, grants, held)
+}
+
+/// How a bar is drawn.
+#[derive(Clone, Copy, Debug, PartialEq, Eq)]
+enum Bar {
+    /// Filled, for a section that a route goes over.
+    Filled(Color),
+    /// Empty, for one of the overlap at its end.
+    Empty(Color),
+}
+
+/// Appends such a bar for each of these sections, from the grant of its route to the release, or to the last tick.
+fn put_bars(
+    alloc: Global,
+    picture: &mut Picture,
+    scale: &Scale,
+    bar: Bar,
+    name: &[u8],
+    grants: &[(RouteNo, Option<u64>)],
+    releases: &[(RouteNo, SectionNo, Option<u64>)],
+) -> Result<(), AllocError>
+    ensures words { OnOk result (words_in picture.new ≡ words_in picture.old) }
+    ensures size { OnOk result (length picture.new ≤ length picture.old + 2 * length releases.now) }
+{
+    for (route, section, tick) in releases {
+        if let Some(from) = grant_of(grants, *route) {
             let holding = Holding {
-                train,
                 section: *section,
                 from,
                 to: tick.unwrap_or(scale.ticks),
+                bar,
             };
             put_holding(alloc, picture, scale, holding, name)?;
         }
@@ -93,14 +124,13 @@ fn put_row(
     put_words(picture, place, Anchor::End, Color::Black, text)
 }
 
-/// A train that holds a section from a tick to another one.
+/// A section that a train holds from a tick to another one, and how its bar is drawn.
 #[derive(Clone, Copy, Debug)]
 struct Holding {
-    /// The train's number, counted from 1.
-    train: usize,
     section: SectionNo,
     from: u64,
     to: u64,
+    bar: Bar,
 }
 
 /// The tick at which a route is granted, if it is.
@@ -131,7 +161,16 @@ fn put_holding(
         x: left,
         y: y.saturating_sub(6),
     };
-    put_bar(picture, corner, width, 12, train_color(holding.train))?;
+    let text_color = match holding.bar {
+        Bar::Filled(color) => {
+            put_bar(picture, corner, width, 12, color)?;
+            Color::White
+        }
+        Bar::Empty(color) => {
+            put_frame(picture, corner, width, 12, color)?;
+            color
+        }
+    };
     let needed = (name.len() as u64).saturating_mul(CHARACTER);
     if needed <= width {
         let place = Point {
@@ -139,7 +178,7 @@ fn put_holding(
             y: y.saturating_add(4),
         };
         let text = Vec::from_slice(alloc, name)?;
-        put_note(picture, place, Anchor::Middle, Color::White, text)?;
+        put_note(picture, place, Anchor::Middle, text_color, text)?;
     }
     Ok(())
 }

@@ -31,8 +31,8 @@ use std::alloc::{AllocError, Global};
 ///
 /// Across runs the time, in s; down lie the nodes, by their levels along the track. A train's line leads through the
 /// nodes that it passes, and stays at one where it stands, or where a route from there is granted later. Below there is
-/// a row for each section with a bar from the grant to the release, or to the deciding tick, and below that a text for
-/// each requirement.
+/// a row for each section with a bar from the grant to the release, or to the deciding tick, which is empty where the
+/// section is of an overlap, and below that a text for each requirement.
 ///
 /// `Err` is want of memory.
 pub fn run_picture(

@@ -14,7 +14,7 @@ use Rattle.rail_base.specs.Stations.{trains, horizon, within_of, order_of}
 use Rattle.rail_spec.specs.Requirements.{most_ticks, is_certain, is_after}
 use Rattle.rail_base.proofs.Members.{In, and_left, and_right, and_both, list_all_at, below_or_not}
 use Rattle.rail_spec.specs.Dispatches.{is_granted, has_released, has_cleared, is_ready, granted_with, granted_after}
-use Rattle.rail_spec.specs.Dispatches.{state_at, of_plan}
+use Rattle.rail_spec.specs.Dispatches.{pasts_at, state_at, of_plan}
 use Rattle.rail_spec.specs.Visits.{visit_tick}
 use Rattle.slice_spec.specs.Holders.{count_at, next_at, holder_for, holder_at, is_within, reaches, grants_reach, reaches_holder, IsClosedFamily}
 use Rattle.rail_laws.proofs.Running.{run_up_to, is_granted_up_to, granted_at_least, granted_cleared}
@@ -65,11 +65,11 @@ module _ (d : Station) (routes : List Route) (plan : List (List Command)) (last 
     holders = list_all_from (λ t. reaches_holder d routes plan last all_last t (holder_at d routes plan last all_last t)) (trains d) (λ t m. holder_near (holder_at d routes plan last all_last t) t);
   }
     where
-      released_all : (c : Command) → is_granted d routes (of_plan routes plan) (state_at d routes (of_plan routes plan) last) c ≡ true → list_all (λ e. has_cleared d routes (of_plan routes plan) (state_at d routes (of_plan routes plan) last) c e) (preceding routes plan c) ≡ true
+      released_all : (c : Command) → is_granted d routes (of_plan routes plan) (state_at d routes (of_plan routes plan) last) c ≡ true → list_all (λ e. has_cleared d routes (of_plan routes plan) (pasts_at d routes (of_plan routes plan) last) c e) (preceding routes plan c) ≡ true
       released_all c g =
           let cleared = granted_cleared d routes (of_plan routes plan) last c g in
-          list_all_from (λ e. has_cleared d routes (of_plan routes plan) (state_at d routes (of_plan routes plan) last) c e) (preceding routes plan c) (λ e i.
-          list_all_from (has_released d routes (of_plan routes plan) (state_at d routes (of_plan routes plan) last) e) (shared (route_at routes e.route) (route_at routes c.route)) (λ z j. cleared.each e z i j))
+          list_all_from (λ e. has_cleared d routes (of_plan routes plan) (pasts_at d routes (of_plan routes plan) last) c e) (preceding routes plan c) (λ e i.
+          list_all_from (has_released d routes (of_plan routes plan) (pasts_at d routes (of_plan routes plan) last) e) (shared (route_at routes e.route) (route_at routes c.route)) (λ z j. cleared.each e z i j))
 
       holder_near : (o : Option Command) (t : TrainNo) → reaches_holder d routes plan last all_last t o ≡ true
       holder_near None t = refl
@@ -92,18 +92,18 @@ module _ (d : Station) (routes : List Route) (plan : List (List Command)) (last 
 
   -- the next command of a train is not ready at a tick after which nothing is granted to it
   stuck : (t : TrainNo) (r : RouteNo) (k : ℕ) → 1 ≤ t.0 → t.0 ≤ length d.trains → slice_get (path plan t) (count_at d routes plan k t) ≡ Some r → count_at d routes plan (suc k) t ≡ count_at d routes plan k t
-      → is_ready d routes (of_plan routes plan) (state_at d routes (of_plan routes plan) k) (record { train = t; route = r }) ≡ true → ⊥
+      → is_ready d routes (of_plan routes plan) (pasts_at d routes (of_plan routes plan) k) (record { train = t; route = r }) ≡ true → ⊥
   stuck t r k a b next same ready =
       let least = granted_at_least d routes (of_plan routes plan) k t a b refl in
-      let new : granted_after d routes (of_plan routes plan) (state_at d routes (of_plan routes plan) k) t ≡ count_at d routes plan k t + 1 =
-      ap (granted_with d routes (of_plan routes plan) (state_at d routes (of_plan routes plan) k) t) next ∙ ap (λ (x : Bool). if x then count_at d routes plan k t + 1 else count_at d routes plan k t) ready in
+      let new : granted_after d routes (of_plan routes plan) (pasts_at d routes (of_plan routes plan) k) t ≡ count_at d routes plan k t + 1 =
+      ap (granted_with d routes (of_plan routes plan) (pasts_at d routes (of_plan routes plan) k) t) next ∙ ap (λ (x : Bool). if x then count_at d routes plan k t + 1 else count_at d routes plan k t) ready in
       omega arith
 
   -- what the rules ask of lower horizons, closed ones that are higher give
   module _ (v : Violation) (g h : TrainNo → ℕ) (soon : (t : TrainNo) → 1 ≤ t.0 → t.0 ≤ length d.trains → g t ≤ last) (ph : IsClosedFamily d routes plan last h v) where
     -- what c waits for is released by the higher horizon, where c is granted by the lower one
-    pub released_by : (c e : Command) → In c (commands plan) → In e (preceding routes plan c) → g c.train ≤ h c.train → is_granted d routes (of_plan routes plan) (state_at d routes (of_plan routes plan) (g c.train)) c ≡ true → has_cleared d routes (of_plan routes plan) (state_at d routes (of_plan routes plan) (h e.train)) c e ≡ true
-    released_by c e m i l k = list_all_at (λ e. has_cleared d routes (of_plan routes plan) (state_at d routes (of_plan routes plan) (h e.train)) c e) (preceding routes plan c) e
+    pub released_by : (c e : Command) → In c (commands plan) → In e (preceding routes plan c) → g c.train ≤ h c.train → is_granted d routes (of_plan routes plan) (state_at d routes (of_plan routes plan) (g c.train)) c ≡ true → has_cleared d routes (of_plan routes plan) (pasts_at d routes (of_plan routes plan) (h e.train)) c e ≡ true
+    released_by c e m i l k = list_all_at (λ e. has_cleared d routes (of_plan routes plan) (pasts_at d routes (of_plan routes plan) (h e.train)) c e) (preceding routes plan c) e
         (from_or _ _ (list_all_at (grants_reach d routes plan last h) (commands plan) c ph.grants m) (is_granted_up_to d routes (of_plan routes plan) (g c.train) (h c.train) c l k)) i
 
     -- the train of a holder at the lower horizon is followed far enough by the higher ones
@@ -151,8 +151,8 @@ module _ (d : Station) (routes : List Route) (plan : List (List Command)) (last 
                     granted : is_granted d routes (of_plan routes plan) (state_at d routes (of_plan routes plan) (h t)) (record { train = t; route = r }) ≡ true
                     granted = let p = before_first_at r (path plan t) (count_at d routes plan (g t) t) y in let m = length-map (route_at routes) (before_first (λ x. is_route x r) (path plan t)) in le-leb _ _ (omega arith)
 
-                    out : has_cleared d routes (of_plan routes plan) (state_at d routes (of_plan routes plan) (h e.train)) (record { train = t; route = r }) e ≡ true
-                    out = list_all_at (λ e. has_cleared d routes (of_plan routes plan) (state_at d routes (of_plan routes plan) (h e.train)) (record { train = t; route = r }) e) (preceding routes plan (record { train = t; route = r })) e
+                    out : has_cleared d routes (of_plan routes plan) (pasts_at d routes (of_plan routes plan) (h e.train)) (record { train = t; route = r }) e ≡ true
+                    out = list_all_at (λ e. has_cleared d routes (of_plan routes plan) (pasts_at d routes (of_plan routes plan) (h e.train)) (record { train = t; route = r }) e) (preceding routes plan (record { train = t; route = r })) e
                         (from_or _ _ (list_all_at (grants_reach d routes plan last h) (commands plan) (record { train = t; route = r }) ph.grants is_in) granted) is_latest.member
 
                     near : (h e.train + 1 < g t) ⊎ (g t ≤ h e.train + 1) → g t ≤ h e.train + 1
@@ -230,10 +230,10 @@ module _ (d : Station) (routes : List Route) (plan : List (List Command)) (last 
       grants = list_all_from (grants_reach d routes plan last (lower g h)) (commands plan) (λ c m. or_false _ _ (λ k.
           let in_g = from_or _ _ (list_all_at (grants_reach d routes plan last g) (commands plan) c pg.grants m) (is_granted_up_to d routes (of_plan routes plan) (min (g c.train) (h c.train)) (g c.train) c (omega arith) k) in
           let in_h = from_or _ _ (list_all_at (grants_reach d routes plan last h) (commands plan) c ph.grants m) (is_granted_up_to d routes (of_plan routes plan) (min (g c.train) (h c.train)) (h c.train) c (omega arith) k) in
-          list_all_from (λ e. has_cleared d routes (of_plan routes plan) (state_at d routes (of_plan routes plan) (lower g h e.train)) c e) (preceding routes plan c) (λ e i.
-          at_lower (λ x. has_cleared d routes (of_plan routes plan) (state_at d routes (of_plan routes plan) x) c e ≡ true) e.train
-          (list_all_at (λ e. has_cleared d routes (of_plan routes plan) (state_at d routes (of_plan routes plan) (g e.train)) c e) (preceding routes plan c) e in_g i)
-          (list_all_at (λ e. has_cleared d routes (of_plan routes plan) (state_at d routes (of_plan routes plan) (h e.train)) c e) (preceding routes plan c) e in_h i))))
+          list_all_from (λ e. has_cleared d routes (of_plan routes plan) (pasts_at d routes (of_plan routes plan) (lower g h e.train)) c e) (preceding routes plan c) (λ e i.
+          at_lower (λ x. has_cleared d routes (of_plan routes plan) (pasts_at d routes (of_plan routes plan) x) c e ≡ true) e.train
+          (list_all_at (λ e. has_cleared d routes (of_plan routes plan) (pasts_at d routes (of_plan routes plan) (g e.train)) c e) (preceding routes plan c) e in_g i)
+          (list_all_at (λ e. has_cleared d routes (of_plan routes plan) (pasts_at d routes (of_plan routes plan) (h e.train)) c e) (preceding routes plan c) e in_h i))))
 
       holders : list_all (λ t. reaches_holder d routes plan last (lower g h) t (holder_at d routes plan last (lower g h) t)) (trains d) ≡ true
       holders = list_all_from (λ t. reaches_holder d routes plan last (lower g h) t (holder_at d routes plan last (lower g h) t)) (trains d) (λ t m. let i = in_trains_back d t m in each t i.0 i.1 (holder_at d routes plan last (lower g h) t) refl)

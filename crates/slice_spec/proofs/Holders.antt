@@ -8,12 +8,13 @@ use Rattle.rail_base.specs.declared.plan.Command.{Command}
 use Rattle.rail_base.specs.declared.state.TrainState.{TrainState}
 use Rattle.rail_base.specs.Numbering.{least, or_this}
 use Rattle.rail_spec.specs.Plans.{route_at, share, shared, has_section, preceding, precedes, is_train, sections, commands}
-use Rattle.rail_spec.specs.Dispatches.{state_of, is_granted, has_released, has_cleared, state_at}
+use Rattle.rail_spec.specs.Dispatches.{state_of, is_granted, has_released, has_cleared, pasts_at, state_at}
 use Rattle.rail_base.proofs.Members.{In, and_left, and_right, list_all_at, list_any_gives, in_filter, not_less}
 use Rattle.rail_laws.proofs.Deciding.{least_gives, least_stays}
 use Rattle.rail_spec.specs.Dispatches.{of_plan}
 use Rattle.cone_spec.specs.Validity.{is_before}
 use Rattle.slice_spec.specs.Holders.{is_later, clear_tick, later_of, latest}
+use Rattle.cone_spec.proofs.Releasing.{released_granted}
 use Rattle.rail_laws.proofs.Running.{idle_at_first, released_up_to}
 use Rattle.rail_base.proofs.Lists.{list_all_from, in_map, in_filter_back}
 use Rattle.std.specs.Prelude.{fold}
@@ -105,48 +106,47 @@ module _ (d : Station) (routes : List Route) (plan : List (List Command)) (last 
 
   -- at first nothing is released that is shared
   pub shares_one : (e : Command) → In e (preceding routes plan c) → (z : SectionNo) × In z (shared (route_at routes e.route) (route_at routes c.route))
-  shares_one e m = go (list_any_gives (λ p. has_section (route_at routes c.route) p.0) (route_at routes e.route).sections shares)
+  shares_one e m =
+      let f = list_any_gives (has_section (route_at routes c.route)) (sections (route_at routes e.route)) shares in
+      (f.0, in_filter (has_section (route_at routes c.route)) (sections (route_at routes e.route)) f.0 f.1 f.2)
     where
       shares : share (route_at routes e.route) (route_at routes c.route) ≡ true
       shares = and_right (not (is_train e.train c.train)) _ (and_left (not (is_train e.train c.train) && share (route_at routes e.route) (route_at routes c.route)) _ (in_filter_back (λ e. precedes routes plan e c) (commands plan) e m).1)
 
-      go : (p : SectionNo × ℤ) × In p (route_at routes e.route).sections × (has_section (route_at routes c.route) p.0 ≡ true) → (z : SectionNo) × In z (shared (route_at routes e.route) (route_at routes c.route))
-      go (p, i, h) = (p.0, in_filter (has_section (route_at routes c.route)) (sections (route_at routes e.route)) p.0 (in_map (λ z. z.0) (route_at routes e.route).sections p i) h)
-
-  pub not_at_first : (e : Command) → In e (preceding routes plan c) → has_cleared d routes (of_plan routes plan) (state_at d routes (of_plan routes plan) zero) c e ≡ true → ⊥
+  pub not_at_first : (e : Command) → In e (preceding routes plan c) → has_cleared d routes (of_plan routes plan) (pasts_at d routes (of_plan routes plan) zero) c e ≡ true → ⊥
   not_at_first e m r =
       let s = shares_one e m in
-      let one = list_all_at (has_released d routes (of_plan routes plan) (state_at d routes (of_plan routes plan) zero) e) (shared (route_at routes e.route) (route_at routes c.route)) s.0 r s.1 in
-      let g = leb-true _ _ (and_left (is_granted d routes (of_plan routes plan) (state_at d routes (of_plan routes plan) zero) e) _ one) in
+      let one = list_all_at (has_released d routes (of_plan routes plan) (pasts_at d routes (of_plan routes plan) zero) e) (shared (route_at routes e.route) (route_at routes c.route)) s.0 r s.1 in
+      let g = released_granted d routes (of_plan routes plan) zero e s.0 one in
       let z : (state_of (state_at d routes (of_plan routes plan) zero) e.train).granted ≡ 0 = ap (λ (s : TrainState). s.granted) (idle_at_first d routes (of_plan routes plan) e.train) in
       omega arith
 
-  pub has_released_up_to : (k l : ℕ) (e : Command) → k ≤ l → has_cleared d routes (of_plan routes plan) (state_at d routes (of_plan routes plan) k) c e ≡ true → has_cleared d routes (of_plan routes plan) (state_at d routes (of_plan routes plan) l) c e ≡ true
-  has_released_up_to k l e n h = list_all_from _ (shared (route_at routes e.route) (route_at routes c.route)) (λ z m. released_up_to d routes (of_plan routes plan) k l e z n (list_all_at (has_released d routes (of_plan routes plan) (state_at d routes (of_plan routes plan) k) e) (shared (route_at routes e.route) (route_at routes c.route)) z h m))
+  pub has_released_up_to : (k l : ℕ) (e : Command) → k ≤ l → has_cleared d routes (of_plan routes plan) (pasts_at d routes (of_plan routes plan) k) c e ≡ true → has_cleared d routes (of_plan routes plan) (pasts_at d routes (of_plan routes plan) l) c e ≡ true
+  has_released_up_to k l e n h = list_all_from _ (shared (route_at routes e.route) (route_at routes c.route)) (λ z m. released_up_to d routes (of_plan routes plan) k l e z n (list_all_at (has_released d routes (of_plan routes plan) (pasts_at d routes (of_plan routes plan) k) e) (shared (route_at routes e.route) (route_at routes c.route)) z h m))
 
-  pub all_out : (k : ℕ) (e : Command) → k ≤ last → Latest (preceding routes plan c) e → has_cleared d routes (of_plan routes plan) (state_at d routes (of_plan routes plan) k) c e ≡ true → list_all (has_cleared d routes (of_plan routes plan) (state_at d routes (of_plan routes plan) k) c) (preceding routes plan c) ≡ true
+  pub all_out : (k : ℕ) (e : Command) → k ≤ last → Latest (preceding routes plan c) e → has_cleared d routes (of_plan routes plan) (pasts_at d routes (of_plan routes plan) k) c e ≡ true → list_all (has_cleared d routes (of_plan routes plan) (pasts_at d routes (of_plan routes plan) k) c) (preceding routes plan c) ≡ true
   all_out zero e l w r = absurd (not_at_first e w.member r)
   all_out (suc k) e l w r = list_all_from _ (preceding routes plan c) (λ f m. each f m (least_found test (suc k) (omega arith) r))
     where
       test : ℕ → Bool
-      test i = has_cleared d routes (of_plan routes plan) (state_at d routes (of_plan routes plan) i) c e
+      test i = has_cleared d routes (of_plan routes plan) (pasts_at d routes (of_plan routes plan) i) c e
 
-      each : (f : Command) → In f (preceding routes plan c) → (a : ℕ) × (least (λ i. has_cleared d routes (of_plan routes plan) (state_at d routes (of_plan routes plan) i) c e) (suc k) ≡ Some a) → has_cleared d routes (of_plan routes plan) (state_at d routes (of_plan routes plan) (suc k)) c f ≡ true
+      each : (f : Command) → In f (preceding routes plan c) → (a : ℕ) × (least (λ i. has_cleared d routes (of_plan routes plan) (pasts_at d routes (of_plan routes plan) i) c e) (suc k) ≡ Some a) → has_cleared d routes (of_plan routes plan) (pasts_at d routes (of_plan routes plan) (suc k)) c f ≡ true
       each f m (a, at) = go (clear_tick d routes plan last c f) refl
         where
           bound : a ≤ suc k
-          bound = (least_gives (λ i. has_cleared d routes (of_plan routes plan) (state_at d routes (of_plan routes plan) i) c e) (suc k) a at).last
+          bound = (least_gives (λ i. has_cleared d routes (of_plan routes plan) (pasts_at d routes (of_plan routes plan) i) c e) (suc k) a at).last
 
           of_e : clear_tick d routes plan last c e ≡ Some a
-          of_e = let s : suc k + (last - suc k) ≡ last = omega arith in subst (λ i. least (λ i. has_cleared d routes (of_plan routes plan) (state_at d routes (of_plan routes plan) i) c e) i ≡ Some a) s (least_stays (λ i. has_cleared d routes (of_plan routes plan) (state_at d routes (of_plan routes plan) i) c e) (suc k) (last - suc k) a at)
+          of_e = let s : suc k + (last - suc k) ≡ last = omega arith in subst (λ i. least (λ i. has_cleared d routes (of_plan routes plan) (pasts_at d routes (of_plan routes plan) i) c e) i ≡ Some a) s (least_stays (λ i. has_cleared d routes (of_plan routes plan) (pasts_at d routes (of_plan routes plan) i) c e) (suc k) (last - suc k) a at)
 
           no_later : is_later (clear_tick d routes plan last c f) (Some a) ≡ false
           no_later = ap (is_later (clear_tick d routes plan last c f)) (sym of_e) ∙ w.none_later f m
 
-          go : (o : Option ℕ) → clear_tick d routes plan last c f ≡ o → has_cleared d routes (of_plan routes plan) (state_at d routes (of_plan routes plan) (suc k)) c f ≡ true
+          go : (o : Option ℕ) → clear_tick d routes plan last c f ≡ o → has_cleared d routes (of_plan routes plan) (pasts_at d routes (of_plan routes plan) (suc k)) c f ≡ true
           go None eo = absurd (true≢false (ap (λ o. is_later o (Some a)) (sym eo) ∙ no_later))
           go (Some b) eo =
               let early = leb-false (suc a) b (ap (λ o. is_later o (Some a)) (sym eo) ∙ no_later) in
-              let found = least_gives (λ i. has_cleared d routes (of_plan routes plan) (state_at d routes (of_plan routes plan) i) c f) last b eo in
+              let found = least_gives (λ i. has_cleared d routes (of_plan routes plan) (pasts_at d routes (of_plan routes plan) i) c f) last b eo in
               let up = bound in
               has_released_up_to b (suc k) f (omega arith) found.passes

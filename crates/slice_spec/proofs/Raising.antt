@@ -13,7 +13,7 @@ use Rattle.rail_base.proofs.Lists.{list_all_from}
 use Rattle.rail_spec.specs.Plans.{commands, preceding, route_at, shared}
 use Rattle.rail_spec.specs.Requirements.{most_ticks, is_certain, is_after}
 use Rattle.rail_spec.specs.Visits.{visit_tick}
-use Rattle.rail_spec.specs.Dispatches.{is_granted, has_released, has_cleared, state_at, of_plan}
+use Rattle.rail_spec.specs.Dispatches.{is_granted, has_released, has_cleared, pasts_at, state_at, of_plan}
 use Rattle.rail_laws.proofs.Deciding.{least_gives}
 use Rattle.rail_laws.proofs.Running.{is_granted_up_to, granted_cleared}
 use Rattle.slice_spec.specs.Holders.{clear_tick, holder_at, is_within, reaches, grants_reach, reaches_holder, IsClosedFamily}
@@ -59,19 +59,19 @@ tick_of_pair t u a b e = let s : Some a ≡ Some b = ap (λ (p : TrainNo × Opti
 module _ (d : Station) (routes : List Route) (plan : List (List Command)) (last : ℕ) where
   -- what a command waits for has cleared it at a tick, where it is granted
   pub clears : (k : ℕ) → k ≤ last → (c e : Command) → In e (preceding routes plan c) → is_granted d routes (of_plan routes plan) (state_at d routes (of_plan routes plan) k) c ≡ true → (a : ℕ) × (clear_tick d routes plan last c e ≡ Some a)
-  clears k l c e i g = least_found (λ k. has_cleared d routes (of_plan routes plan) (state_at d routes (of_plan routes plan) k) c e) last (some k l g) cleared_last
+  clears k l c e i g = least_found (λ k. has_cleared d routes (of_plan routes plan) (pasts_at d routes (of_plan routes plan) k) c e) last (some k l g) cleared_last
     where
-      cleared : has_cleared d routes (of_plan routes plan) (state_at d routes (of_plan routes plan) k) c e ≡ true
-      cleared = let r = granted_cleared d routes (of_plan routes plan) k c g in list_all_from (has_released d routes (of_plan routes plan) (state_at d routes (of_plan routes plan) k) e) (shared (route_at routes e.route) (route_at routes c.route)) (λ z j. r.each e z i j)
+      cleared : has_cleared d routes (of_plan routes plan) (pasts_at d routes (of_plan routes plan) k) c e ≡ true
+      cleared = let r = granted_cleared d routes (of_plan routes plan) k c g in list_all_from (has_released d routes (of_plan routes plan) (pasts_at d routes (of_plan routes plan) k) e) (shared (route_at routes e.route) (route_at routes c.route)) (λ z j. r.each e z i j)
 
-      cleared_last : has_cleared d routes (of_plan routes plan) (state_at d routes (of_plan routes plan) last) c e ≡ true
+      cleared_last : has_cleared d routes (of_plan routes plan) (pasts_at d routes (of_plan routes plan) last) c e ≡ true
       cleared_last = has_released_up_to d routes plan last c k last e l cleared
 
       some : (k : ℕ) → k ≤ last → is_granted d routes (of_plan routes plan) (state_at d routes (of_plan routes plan) k) c ≡ true → 1 ≤ last
       some k l g = at last refl
         where
           at : (n : ℕ) → last ≡ n → 1 ≤ n
-          at zero z = absurd (not_at_first d routes plan last c e i (subst (λ n. has_cleared d routes (of_plan routes plan) (state_at d routes (of_plan routes plan) n) c e ≡ true) z cleared_last))
+          at zero z = absurd (not_at_first d routes plan last c e i (subst (λ n. has_cleared d routes (of_plan routes plan) (pasts_at d routes (of_plan routes plan) n) c e ≡ true) z cleared_last))
           at (suc n) z = omega arith
 
   -- ---- what a closed family reaches
@@ -81,13 +81,13 @@ module _ (d : Station) (routes : List Route) (plan : List (List Command)) (last 
     pub reaches_clear : (c e : Command) → In c (commands plan) → In e (preceding routes plan c) → (k : ℕ) → k ≤ g c.train → is_granted d routes (of_plan routes plan) (state_at d routes (of_plan routes plan) k) c ≡ true → (a : ℕ) → clear_tick d routes plan last c e ≡ Some a → a ≤ g e.train
     reaches_clear c e m i k l granted a at = go (g e.train) refl
       where
-        cleared : has_cleared d routes (of_plan routes plan) (state_at d routes (of_plan routes plan) (g e.train)) c e ≡ true
-        cleared = list_all_at (λ e. has_cleared d routes (of_plan routes plan) (state_at d routes (of_plan routes plan) (g e.train)) c e) (preceding routes plan c) e
+        cleared : has_cleared d routes (of_plan routes plan) (pasts_at d routes (of_plan routes plan) (g e.train)) c e ≡ true
+        cleared = list_all_at (λ e. has_cleared d routes (of_plan routes plan) (pasts_at d routes (of_plan routes plan) (g e.train)) c e) (preceding routes plan c) e
             (from_or _ _ (list_all_at (grants_reach d routes plan last g) (commands plan) c closed.grants m) (is_granted_up_to d routes (of_plan routes plan) k (g c.train) c l granted)) i
 
         go : (n : ℕ) → g e.train ≡ n → a ≤ g e.train
-        go zero z = absurd (not_at_first d routes plan last c e i (subst (λ n. has_cleared d routes (of_plan routes plan) (state_at d routes (of_plan routes plan) n) c e ≡ true) z cleared))
-        go (suc n) z = least_below (λ k. has_cleared d routes (of_plan routes plan) (state_at d routes (of_plan routes plan) k) c e) last a (g e.train) at (omega arith) cleared
+        go zero z = absurd (not_at_first d routes plan last c e i (subst (λ n. has_cleared d routes (of_plan routes plan) (pasts_at d routes (of_plan routes plan) n) c e ≡ true) z cleared))
+        go (suc n) z = least_below (λ k. has_cleared d routes (of_plan routes plan) (pasts_at d routes (of_plan routes plan) k) c e) last a (g e.train) at (omega arith) cleared
 
     -- the tick before that up to which a train is held up
     pub reaches_held : (t : TrainNo) → IsTrain d t → (k : ℕ) → k ≤ last → k ≤ g t → (e : Command) → holder_at d routes plan last (λ u. k) t ≡ Some e → k - 1 ≤ g e.train
@@ -169,14 +169,14 @@ module _ (d : Station) (routes : List Route) (plan : List (List Command)) (last 
   closed_of v certain h soon named own grants holders = record {
     soon = list_all_from (λ t. nat_le (h t) last) (trains d) (λ t m. le-leb (h t) last (soon t (in_trains_back d t m)));
     own = own_of v certain h own;
-    grants = list_all_from (grants_reach d routes plan last h) (commands plan) (λ c m. or_false _ _ (λ g. list_all_from (λ e. has_cleared d routes (of_plan routes plan) (state_at d routes (of_plan routes plan) (h e.train)) c e) (preceding routes plan c) (λ e i. cleared c e m i g)));
+    grants = list_all_from (grants_reach d routes plan last h) (commands plan) (λ c m. or_false _ _ (λ g. list_all_from (λ e. has_cleared d routes (of_plan routes plan) (pasts_at d routes (of_plan routes plan) (h e.train)) c e) (preceding routes plan c) (λ e i. cleared c e m i g)));
     holders = list_all_from (λ t. reaches_holder d routes plan last h t (holder_at d routes plan last h t)) (trains d) (λ t m. holder_fits t (in_trains_back d t m) (holder_at d routes plan last h t) refl);
   }
     where
-      cleared : (c e : Command) → In c (commands plan) → In e (preceding routes plan c) → is_granted d routes (of_plan routes plan) (state_at d routes (of_plan routes plan) (h c.train)) c ≡ true → has_cleared d routes (of_plan routes plan) (state_at d routes (of_plan routes plan) (h e.train)) c e ≡ true
+      cleared : (c e : Command) → In c (commands plan) → In e (preceding routes plan c) → is_granted d routes (of_plan routes plan) (state_at d routes (of_plan routes plan) (h c.train)) c ≡ true → has_cleared d routes (of_plan routes plan) (pasts_at d routes (of_plan routes plan) (h e.train)) c e ≡ true
       cleared c e m i g =
           let a = clears (h c.train) (soon c.train (named c m)) c e i g in
-          let at = least_gives (λ k. has_cleared d routes (of_plan routes plan) (state_at d routes (of_plan routes plan) k) c e) last a.0 a.1 in
+          let at = least_gives (λ k. has_cleared d routes (of_plan routes plan) (pasts_at d routes (of_plan routes plan) k) c e) last a.0 a.1 in
           has_released_up_to d routes plan last c a.0 (h e.train) e (grants c e m i g a.0 a.1) at.passes
 
       holder_fits : (t : TrainNo) → IsTrain d t → (o : Option Command) → holder_at d routes plan last h t ≡ o → reaches_holder d routes plan last h t o ≡ true

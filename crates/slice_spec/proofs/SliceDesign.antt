@@ -20,13 +20,14 @@ use Rattle.rail_base.specs.Stations.{first_visit, trains, train_of, horizon}
 use Rattle.rail_spec.specs.Feasible.{is_of}
 use Rattle.rail_spec.specs.Requirements.{is_certain}
 use Rattle.rail_base.proofs.Members.{In, and_left, and_right, and_both, list_all_at, list_any_from, is_false}
-use Rattle.rail_spec.specs.Dispatches.{is_granted, has_released, state_of, state_at, of_plan}
+use Rattle.rail_spec.specs.Dispatches.{is_granted, has_released, state_of, pasts_at, state_at, of_plan}
 use Rattle.cone_spec.specs.Cones.{named, is_named}
 use Rattle.cone_spec.specs.Validity.{from_boundary, is_walk, train_in_design, holder_in_path, pair_in_design, violation_in_design, is_pair_before, in_design, is_valid_cone}
 use Rattle.cone_spec.specs.Clauses.{is_path_violation, clause_of_cone, is_false_of}
 use Rattle.rail_base.specs.Admission.{is_from}
 use Rattle.slice_spec.specs.Holders.{count_at, next_at, holder_for, holder_at, is_the, is_holder, reaches}
 use Rattle.slice_spec.specs.Slices.{past_last, is_next, slice_train, is_slice_pair, slice_pairs, slice_with, names}
+use Rattle.cone_spec.proofs.Releasing.{released_granted}
 use Rattle.rail_laws.proofs.Running.{first_is}
 use Rattle.cone_spec.proofs.Agreement.{at_place}
 use Rattle.cone_spec.proofs.Saying.{has_in, in_trains, is_command_same, is_command_self}
@@ -229,8 +230,8 @@ module _ (d : Station) (routes : List Route) (n : ℕ) (plan : List (List Comman
           let i = listed_precedes d routes n plan last v h upto failed e c l in
           let r = cleared_by d routes n plan last v h upto failed c e c_in i g in
           let z = shares_one d routes plan last c e i in
-          let one = list_all_at (has_released d routes (of_plan routes plan) (state_at d routes (of_plan routes plan) (h e.train)) e) (shared (route_at routes e.route) (route_at routes c.route)) z.0 r z.1 in
-          (granted_named e ed.0 ed.1 (and_left (is_granted d routes (of_plan routes plan) (state_at d routes (of_plan routes plan) (h e.train)) e) _ one), granted_named c cd.0 cd.1 g)
+          let one = list_all_at (has_released d routes (of_plan routes plan) (pasts_at d routes (of_plan routes plan) (h e.train)) e) (shared (route_at routes e.route) (route_at routes c.route)) z.0 r z.1 in
+          (granted_named e ed.0 ed.1 (le-leb _ _ (released_granted d routes (of_plan routes plan) (h e.train) e z.0 one)), granted_named c cd.0 cd.1 g)
 
       -- c is held up by e
       held_up : (o : Option Command) → holder_at d routes plan last h c.train ≡ o → is_the e o ≡ true → (m : Option RouteNo) → next_at d routes plan (h c.train) c.train ≡ m → is_next c m ≡ true → (is_named (slice_with d routes plan last h upto v) e ≡ true) × (is_named (slice_with d routes plan last h upto v) c ≡ true)

@@ -15,7 +15,7 @@ use Rattle.rail_spec.specs.Plans.{route_at, shared, commands, path, preceding, p
 use Rattle.rail_base.specs.Stations.{trains}
 use Rattle.rail_base.proofs.Members.{In, and_left, and_right, and_both, list_all_at, list_any_from, not_less}
 use Rattle.rail_spec.specs.Dispatches.{of_plan}
-use Rattle.rail_spec.specs.Dispatches.{state_at, is_granted, has_released, has_cleared, is_ready, granted_with, granted_after}
+use Rattle.rail_spec.specs.Dispatches.{pasts_at, state_at, is_granted, has_released, has_cleared, is_ready, granted_with, granted_after}
 use Rattle.cone_spec.specs.Cones.{named, of_cone, all_free}
 use Rattle.cone_spec.specs.Validity.{granted_at, free_granted, just_granted, holds_up, holder_needed, holder_fits}
 use Rattle.slice_spec.specs.Holders.{count_at, next_at, holder_at, holder_for, latest, is_the, reaches_holder}
@@ -122,13 +122,13 @@ module _ (d : Station) (routes : List Route) (n : ℕ) (plan : List (List Comman
       c : Command
       c = record { train = t; route = r }
 
-      not_ready : is_ready d routes (of_plan routes plan) (state_at d routes (of_plan routes plan) (h t - 1)) (record { train = t; route = r }) ≡ true → ⊥
+      not_ready : is_ready d routes (of_plan routes plan) (pasts_at d routes (of_plan routes plan) (h t - 1)) (record { train = t; route = r }) ≡ true → ⊥
       not_ready ready =
           let least = granted_at_least d routes (of_plan routes plan) (h t - 1) t a b refl in
           let same : suc (h t - 1) ≡ h t = omega arith in
           let count_same : count_at d routes plan (suc (h t - 1)) t ≡ count_at d routes plan (h t) t = ap (λ i. count_at d routes plan i t) same in
-          let new : granted_after d routes (of_plan routes plan) (state_at d routes (of_plan routes plan) (h t - 1)) t ≡ count_at d routes plan (h t - 1) t + 1 =
-          ap (granted_with d routes (of_plan routes plan) (state_at d routes (of_plan routes plan) (h t - 1)) t) (ap (slice_get (path plan t)) none_new ∙ next)
+          let new : granted_after d routes (of_plan routes plan) (pasts_at d routes (of_plan routes plan) (h t - 1)) t ≡ count_at d routes plan (h t - 1) t + 1 =
+          ap (granted_with d routes (of_plan routes plan) (pasts_at d routes (of_plan routes plan) (h t - 1)) t) (ap (slice_get (path plan t)) none_new ∙ next)
           ∙ ap (λ (x : Bool). if x then count_at d routes plan (h t - 1) t + 1 else count_at d routes plan (h t - 1) t) ready in
           omega arith
 
@@ -190,29 +190,29 @@ module _ (d : Station) (routes : List Route) (n : ℕ) (plan : List (List Comman
           near : nat_le (h t) ((named (slice_with d routes plan last h upto v) e.train).horizon + 1) ≡ true
           near = let same = horizon_slice d routes n plan last v h upto failed e.train e_design.0 e_design.1 in let m = reached in le-leb (h t) ((named (slice_with d routes plan last h upto v) e.train).horizon + 1) (omega arith)
 
-          not_out : has_cleared d routes (of_plan routes plan) (state_at d routes (of_plan routes plan) (h t - 1)) (record { train = t; route = r }) e ≡ false
-          not_out = go (has_cleared d routes (of_plan routes plan) (state_at d routes (of_plan routes plan) (h t - 1)) (record { train = t; route = r }) e) refl
+          not_out : has_cleared d routes (of_plan routes plan) (pasts_at d routes (of_plan routes plan) (h t - 1)) (record { train = t; route = r }) e ≡ false
+          not_out = go (has_cleared d routes (of_plan routes plan) (pasts_at d routes (of_plan routes plan) (h t - 1)) (record { train = t; route = r }) e) refl
             where
-              go : (x : Bool) → has_cleared d routes (of_plan routes plan) (state_at d routes (of_plan routes plan) (h t - 1)) (record { train = t; route = r }) e ≡ x → has_cleared d routes (of_plan routes plan) (state_at d routes (of_plan routes plan) (h t - 1)) (record { train = t; route = r }) e ≡ false
+              go : (x : Bool) → has_cleared d routes (of_plan routes plan) (pasts_at d routes (of_plan routes plan) (h t - 1)) (record { train = t; route = r }) e ≡ x → has_cleared d routes (of_plan routes plan) (pasts_at d routes (of_plan routes plan) (h t - 1)) (record { train = t; route = r }) e ≡ false
               go false k = k
               go true k = let m = within_last d routes n plan last v h upto failed t a b in absurd (not_ready (all_out d routes plan last (record { train = t; route = r }) (h t - 1) e (omega arith) w k))
 
-          unreleased : list_any (λ z. not (has_released d routes (of_cone (slice_with d routes plan last h upto v)) (state_at d routes (of_cone (slice_with d routes plan last h upto v)) (h t - 1)) e z)) (shared (route_at routes e.route) (route_at routes r)) ≡ true
-          unreleased = go (list_all_fails (has_released d routes (of_plan routes plan) (state_at d routes (of_plan routes plan) (h t - 1)) e) (shared (route_at routes e.route) (route_at routes r)) not_out)
+          unreleased : list_any (λ z. not (has_released d routes (of_cone (slice_with d routes plan last h upto v)) (pasts_at d routes (of_cone (slice_with d routes plan last h upto v)) (h t - 1)) e z)) (shared (route_at routes e.route) (route_at routes r)) ≡ true
+          unreleased = go (list_all_fails (has_released d routes (of_plan routes plan) (pasts_at d routes (of_plan routes plan) (h t - 1)) e) (shared (route_at routes e.route) (route_at routes r)) not_out)
             where
-              go : (z : SectionNo) × In z (shared (route_at routes e.route) (route_at routes r)) × (has_released d routes (of_plan routes plan) (state_at d routes (of_plan routes plan) (h t - 1)) e z ≡ false)
-                  → list_any (λ z. not (has_released d routes (of_cone (slice_with d routes plan last h upto v)) (state_at d routes (of_cone (slice_with d routes plan last h upto v)) (h t - 1)) e z)) (shared (route_at routes e.route) (route_at routes r)) ≡ true
+              go : (z : SectionNo) × In z (shared (route_at routes e.route) (route_at routes r)) × (has_released d routes (of_plan routes plan) (pasts_at d routes (of_plan routes plan) (h t - 1)) e z ≡ false)
+                  → list_any (λ z. not (has_released d routes (of_cone (slice_with d routes plan last h upto v)) (pasts_at d routes (of_cone (slice_with d routes plan last h upto v)) (h t - 1)) e z)) (shared (route_at routes e.route) (route_at routes r)) ≡ true
               go (z, m, f) =
                   let same = horizon_slice d routes n plan last v h upto failed e.train e_design.0 e_design.1 in
                   let l = reached in
                   let alike = released_same d routes (of_cone (slice_with d routes plan last h upto v)) (of_plan routes plan) (λ t. (named (slice_with d routes plan last h upto v) t).horizon) (meeting d routes n plan last v h upto failed) (h t - 1) e z (slice_agrees d routes n plan last v h upto failed (h t - 1) e.train) (omega arith) in
-                  list_any_from (λ z. not (has_released d routes (of_cone (slice_with d routes plan last h upto v)) (state_at d routes (of_cone (slice_with d routes plan last h upto v)) (h t - 1)) e z)) (shared (route_at routes e.route) (route_at routes r)) z m (ap not (sym alike ∙ f))
+                  list_any_from (λ z. not (has_released d routes (of_cone (slice_with d routes plan last h upto v)) (pasts_at d routes (of_cone (slice_with d routes plan last h upto v)) (h t - 1)) e z)) (shared (route_at routes e.route) (route_at routes r)) z m (ap not (sym alike ∙ f))
 
       next_waits : slice_get (take (upto t) (path plan t)) (count_at d routes plan (h t) t) ≡ Some r
       next_waits = let m = next_named followed (at_in (path plan t) (count_at d routes plan (h t) t) r next).1 in get_take (count_at d routes plan (h t) t) (upto t) (path plan t) (omega arith) ∙ next
 
       held_by : (o : Option Command) → holder_at d routes plan last h t ≡ o → latest d routes plan last (record { train = t; route = r }) (preceding routes plan (record { train = t; route = r })) ≡ o → holder_fits d routes (slice_with d routes plan last h upto v) (slice_train d routes plan last h upto t) o ≡ true
-      held_by None e l = absurd (not_ready (ap (list_all (has_cleared d routes (of_plan routes plan) (state_at d routes (of_plan routes plan) (h t - 1)) (record { train = t; route = r }))) (latest_none d routes plan last (record { train = t; route = r }) (preceding routes plan (record { train = t; route = r })) l)))
+      held_by None e l = absurd (not_ready (ap (list_all (has_cleared d routes (of_plan routes plan) (pasts_at d routes (of_plan routes plan) (h t - 1)) (record { train = t; route = r }))) (latest_none d routes plan last (record { train = t; route = r }) (preceding routes plan (record { train = t; route = r })) l)))
       held_by (Some e) i l = and_both _ _ is_needed
           (ap (holds_up d routes (slice_with d routes plan last h upto v) (slice_train d routes plan last h upto t) e) next_waits ∙ holder_up e i (latest_some d routes plan last (record { train = t; route = r }) (preceding routes plan (record { train = t; route = r })) e l))
 

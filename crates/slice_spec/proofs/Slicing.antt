@@ -13,7 +13,7 @@ use Rattle.rail_base.specs.Numbering.{one_to, count_from, before_first}
 use Rattle.rail_spec.specs.Plans.{route_at, is_train, is_route, is_command, commands, path, preceding, precedes, is_well_formed, has_command, all_commands}
 use Rattle.rail_base.specs.Stations.{trains, horizon}
 use Rattle.rail_spec.specs.Feasible.{is_of, names_only}
-use Rattle.rail_spec.specs.Dispatches.{state_of, state_at, is_granted, has_cleared}
+use Rattle.rail_spec.specs.Dispatches.{state_of, pasts_at, state_at, is_granted, has_cleared}
 use Rattle.rail_base.proofs.Members.{In, and_left, and_right, and_both, list_all_at, list_any_gives, list_any_from, in_filter}
 use Rattle.rail_spec.specs.Dispatches.{of_plan}
 use Rattle.cone_spec.specs.Cones.{unnamed, first_named, named, free_path, has_route, of_cone, is_pair}
@@ -280,10 +280,10 @@ module _ (d : Station) (routes : List Route) (n : ℕ) (plan : List (List Comman
             go true e = let m = leb-true a b e in absurd (omega arith)
 
     -- what precedes a granted command has released by its own train's horizon
-    pub cleared_by : (c e : Command) → In c (commands plan) → In e (preceding routes plan c) → is_granted d routes (of_plan routes plan) (state_at d routes (of_plan routes plan) (h c.train)) c ≡ true → has_cleared d routes (of_plan routes plan) (state_at d routes (of_plan routes plan) (h e.train)) c e ≡ true
+    pub cleared_by : (c e : Command) → In c (commands plan) → In e (preceding routes plan c) → is_granted d routes (of_plan routes plan) (state_at d routes (of_plan routes plan) (h c.train)) c ≡ true → has_cleared d routes (of_plan routes plan) (pasts_at d routes (of_plan routes plan) (h e.train)) c e ≡ true
     cleared_by c e m i g =
         let one = list_all_at (grants_reach d routes plan last h) (commands plan) c failed.closed.grants m in
-        list_all_at (λ e. has_cleared d routes (of_plan routes plan) (state_at d routes (of_plan routes plan) (h e.train)) c e) (preceding routes plan c) e (rest_of _ _ g one) i
+        list_all_at (λ e. has_cleared d routes (of_plan routes plan) (pasts_at d routes (of_plan routes plan) (h e.train)) c e) (preceding routes plan c) e (rest_of _ _ g one) i
       where
         rest_of : (a b : Bool) → a ≡ true → (not a || b) ≡ true → b ≡ true
         rest_of true b e k = k
@@ -301,13 +301,13 @@ module _ (d : Station) (routes : List Route) (n : ℕ) (plan : List (List Comman
         followed t l (inl x) = x
         followed t l (inr e) = let z : (named slice t).horizon ≡ 0 = ap (λ (c : ConeTrain). c.horizon) e in absurd (omega arith)
 
-        cleared : (t : TrainNo) (r : RouteNo) (e : Command) → In r (free_path slice t) → In e ((of_cone slice).before (record { train = t; route = r })) → has_cleared d routes (of_plan routes plan) (state_at d routes (of_plan routes plan) (named slice e.train).horizon) (record { train = t; route = r }) e ≡ true
+        cleared : (t : TrainNo) (r : RouteNo) (e : Command) → In r (free_path slice t) → In e ((of_cone slice).before (record { train = t; route = r })) → has_cleared d routes (of_plan routes plan) (pasts_at d routes (of_plan routes plan) (named slice e.train).horizon) (record { train = t; route = r }) e ≡ true
         cleared t r e m i =
             let c : Command = record { train = t; route = r } in
             let g = free_granted t r m in
             let before = listed_precedes e c (listed_out e c (waits_listed d routes slice e c i)) in
             let of_design = command_in_design e (in_filter_back (λ e. precedes routes plan e c) (commands plan) e before).0 in
-            subst (λ k. has_cleared d routes (of_plan routes plan) (state_at d routes (of_plan routes plan) k) c e ≡ true) (sym (horizon_slice e.train of_design.0 of_design.1)) (cleared_by c e g.1 before g.0)
+            subst (λ k. has_cleared d routes (of_plan routes plan) (pasts_at d routes (of_plan routes plan) k) c e ≡ true) (sym (horizon_slice e.train of_design.0 of_design.1)) (cleared_by c e g.1 before g.0)
 
         few : (t : TrainNo) → ((1 ≤ t.0) × (t.0 ≤ length d.trains)) ⊎ (named slice t ≡ unnamed t) → (state_of (state_at d routes (of_plan routes plan) (named slice t).horizon) t).granted ≤ length (free_path slice t)
         few t (inl (a, b)) =

@@ -12,7 +12,7 @@ use Rattle.rail_base.specs.declared.plan.Violation.TheVariants as violation
 use Rattle.rail_base.specs.Numbering.{least}
 use Rattle.rail_base.specs.Stations.{IsTrain, trains, horizon, within_of, order_of}
 use Rattle.rail_spec.specs.Plans.{path, preceding, is_command, commands}
-use Rattle.rail_spec.specs.Dispatches.{state_of, of_plan, is_granted, has_cleared, state_at}
+use Rattle.rail_spec.specs.Dispatches.{state_of, of_plan, is_granted, has_cleared, pasts_at, state_at}
 use Rattle.rail_spec.specs.Requirements.{most_ticks}
 use Rattle.rail_spec.specs.Visits.{visit_tick}
 use Rattle.cone_spec.specs.Validity.{is_before}
@@ -54,7 +54,7 @@ module _ (d : Station) (routes : List Route) (plan : List (List Command)) where
     abbrev pub clear_tick : Command → Command → Option ℕ
     clear_tick c e =
         let run = of_plan routes plan in
-        least (λ k. has_cleared d routes run (state_at d routes run k) c e) last
+        least (λ k. has_cleared d routes run (pasts_at d routes run k) c e) last
 
     -- of two the one that clears c later; where they clear it at one tick that of the lower train, and then of the lower route
     abbrev pub later_of : Command → Option Command → Command → Option Command
@@ -107,7 +107,7 @@ module _ (d : Station) (routes : List Route) (plan : List (List Command)) where
           let before = preceding routes plan c in
           not (is_granted d routes (of_plan routes plan) (state_at d routes (of_plan routes plan) (h c.train)) c)
           || list_all (λ e.
-          has_cleared d routes (of_plan routes plan) (state_at d routes (of_plan routes plan) (h e.train)) c e) before
+          has_cleared d routes (of_plan routes plan) (pasts_at d routes (of_plan routes plan) (h e.train)) c e) before
 
       -- the train of a holder is followed up to the tick before
       abbrev pub reaches_holder : TrainNo → Option Command → Bool

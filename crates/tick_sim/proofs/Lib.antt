@@ -1,3 +1,4 @@
 pub mod Marking
 mod Gathering
-pub mod Gathered
+mod Pairing
+mod Moving

@@ -1,5 +1,6 @@
 -- What a ride is of: a train in the run of a plan.
 use Rattle.std.specs.Prelude.{ℕ, List}
+use Rattle.rail_base.specs.declared.history.TrainHistory.{TrainHistory}
 use Rattle.rail_base.specs.declared.route.Route.{Route}
 use Rattle.rail_base.specs.declared.route.RouteNo.{RouteNo}
 use Rattle.rail_base.specs.declared.state.TrainState.{TrainState}
@@ -26,6 +27,6 @@ module _ (r : Ride) where
   abbrev pub track_granted : ℕ → List SpanSeen
   track_granted granted = running.stretches_granted r.run.now train_of_ride granted
 
-  -- the train after the tick after these states
-  abbrev pub state_after : List TrainState → TrainState
-  state_after states = running.moved_next r.run.now train_of_ride states
+  -- the train is in this state one tick after the states and the histories are these
+  abbrev pub HasMoved : List TrainState → List TrainHistory → TrainState → Type 0
+  HasMoved states histories state = running.IsMovedIn r.run.now states histories train_of_ride state

@@ -1,5 +1,5 @@
 -- What happens in the run of a plan.
-use Rattle.std.specs.Prelude.{ℕ, List, Option, take}
+use Rattle.std.specs.Prelude.{◌≡◌, ℕ, suc, List, Option, take}
 use Rattle.rail_base.specs.declared.history.TrainHistory.{TrainHistory}
 use Rattle.rail_base.specs.declared.history.Verdict.{Verdict}
 use Rattle.rail_base.specs.declared.plan.Violation.{Violation}
@@ -9,7 +9,7 @@ use Rattle.rail_base.specs.declared.station.TrainNo.{TrainNo}
 use Rattle.rail_spec.specs.Histories.{history_at, train_history, verdict_of}
 use Rattle.rail_spec.specs.Plans.{path_routes}
 use Rattle.rail_spec.specs.Requirements.{path_violation}
-use Rattle.rail_spec.specs.Dispatches.{Dispatch, of_plan, granted_after, moved, tick, state_at, stretches, state_of}
+use Rattle.rail_spec.specs.Dispatches.{Dispatch, of_plan, granted_after, moved, pasts_at, state_at, stretches, state_of}
 use Rattle.rail_course.specs.declared.journey.Journey.{Journey}
 use Rattle.rail_course.specs.Journeys.{IsJourney}
 use Rattle.rail_course.specs.declared.journeys.PlannedJourneys.{PlannedJourneys}
@@ -26,9 +26,13 @@ module _ (r : PlannedJourneys) where
   IsJourneyIn = let routes = r.interlocking.now.routes in
       IsJourney r.interlocking.now.design.station routes (of_plan routes r.plan.now.steps)
 
-  -- these are the states at a tick up to 86,400
-  abbrev pub IsReachedIn : List TrainState → Type 0
+  -- these are the states and the histories at a tick up to 86,400
+  abbrev pub IsReachedIn : ℕ → List TrainState → List TrainHistory → Type 0
   IsReachedIn = IsReached r.interlocking.now.design.station r.interlocking.now.routes r.plan.now.steps
+
+  -- there is such a tick
+  abbrev pub AreReachedIn : List TrainState → List TrainHistory → Type 0
+  AreReachedIn states histories = (k : ℕ) × IsReachedIn k states histories
 
   -- these are the states at a tick from 1 on
   abbrev pub IsNowIn : ℕ → List TrainState → Type 0
@@ -46,13 +50,10 @@ module _ (r : PlannedJourneys) where
   abbrev pub moved_in : TrainNo → TrainState → ℕ → TrainState
   moved_in = moved r.interlocking.now.design.station r.interlocking.now.routes dispatch_in
 
-  -- how many commands of a train are granted after the tick
-  abbrev pub granted_in : List TrainState → TrainNo → ℕ
-  granted_in = granted_after r.interlocking.now.design.station r.interlocking.now.routes dispatch_in
-
-  -- all trains after the tick
-  abbrev pub tick_in : List TrainState → List TrainState
-  tick_in = tick r.interlocking.now.design.station r.interlocking.now.routes dispatch_in 0
+  -- how many commands of a train are granted after the tick that follows this one
+  abbrev pub granted_in : ℕ → TrainNo → ℕ
+  granted_in k = granted_after r.interlocking.now.design.station r.interlocking.now.routes dispatch_in
+      (pasts_at r.interlocking.now.design.station r.interlocking.now.routes dispatch_in k)
 
   -- all trains at a tick
   abbrev pub states_in : ℕ → List TrainState
@@ -78,6 +79,14 @@ module _ (r : PlannedJourneys) where
   abbrev pub stretches_granted : TrainNo → ℕ → List SpanSeen
   stretches_granted t granted = stretches r.interlocking.now.design.station (first_routes t granted)
 
-  -- the train after the tick after these states
-  abbrev pub moved_next : TrainNo → List TrainState → TrainState
-  moved_next t states = moved_in t (state_of states t) (granted_in states t)
+  -- the train after the tick that follows this one
+  abbrev pub moved_next : ℕ → TrainNo → TrainState
+  moved_next k t = moved_in t (state_of (states_in k) t) (granted_in k t)
+
+  -- the train is in this state one tick after the states and the histories are these
+  abbrev pub IsMovedIn : List TrainState → List TrainHistory → TrainNo → TrainState → Type 0
+  IsMovedIn states histories t state = (k : ℕ) → IsReachedIn k states histories → state ≡ moved_next k t
+
+  -- all trains are in these states one tick after that
+  abbrev pub AreMovedIn : List TrainState → List TrainHistory → List TrainState → Type 0
+  AreMovedIn states histories next = (k : ℕ) → IsReachedIn k states histories → next ≡ states_in (suc k)

@@ -4,8 +4,8 @@ ghost use Rattle.std.specs.Prelude.{◌≡◌, ◌-◌, IfOk};
 ghost use Rattle.tick_sim.specs.Running.{IsNowIn, history_in, train_history_in};
 
 use crate::marks::{
-    mark_dwells, mark_grants, mark_passes, mark_releases, mark_visits, none_granted, none_passed,
-    none_released, none_stood, none_visited,
+    mark_dwells, mark_grants, mark_holds, mark_passes, mark_releases, mark_visits, none_ended,
+    none_granted, none_passed, none_released, none_stood, none_visited,
 };
 use crate::ride::Ride;
 use rail_base::history::{History, TrainHistory};
@@ -61,12 +61,14 @@ impl Ride<'_> {
         let grants = none_granted(alloc, train_path.path.as_slice())?;
         let passes = none_passed(alloc, train_path.path_nodes.as_slice())?;
         let releases = none_released(alloc, self.journey.releases.as_slice())?;
+        let holds = none_ended(alloc, self.journey.holds.as_slice())?;
         let visits = none_visited(alloc, train_path.visits.as_slice())?;
         let dwells = none_stood(alloc, train_path.dwells.as_slice())?;
         Ok(TrainHistory {
             grants: List::from_vec(grants),
             passes: List::from_vec(passes),
             releases: List::from_vec(releases),
+            holds: List::from_vec(holds),
             visits: List::from_vec(visits),
             dwells: List::from_vec(dwells),
         })
@@ -101,6 +103,13 @@ impl Ride<'_> {
             self.journey.releases.as_slice(),
             old.releases.as_slice(),
         )?;
+        let holds = mark_holds(
+            alloc,
+            passes.as_slice(),
+            tick,
+            self.journey.holds.as_slice(),
+            old.holds.as_slice(),
+        )?;
         let visits = mark_visits(
             alloc,
             state,
@@ -119,6 +128,7 @@ impl Ride<'_> {
             grants: List::from_vec(grants),
             passes: List::from_vec(passes),
             releases: List::from_vec(releases),
+            holds: List::from_vec(holds),
             visits: List::from_vec(visits),
             dwells: List::from_vec(dwells),
         })

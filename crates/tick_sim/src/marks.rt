@@ -2,13 +2,14 @@
 
 ghost use Rattle.std.specs.Prelude.{◌≡◌, IfOk, None, map};
 ghost use Rattle.rail_base.specs.Numbering.{or_this};
-ghost use Rattle.rail_course.specs.Marks.{made_or, mark_dwells, mark_grants, mark_passes, mark_releases, mark_visits};
-ghost use Rattle.rail_course.specs.Marks.{stood_or};
+ghost use Rattle.rail_course.specs.Clocks.{comes_by};
+ghost use Rattle.rail_course.specs.Marks.{made_or, mark_dwells, mark_grants, mark_holds, mark_passes, mark_releases};
+ghost use Rattle.rail_course.specs.Marks.{mark_visits, pass_mark, stood_or};
 
 use rail_base::route::RouteNo;
 use rail_base::state::{PathNode, TrainState};
 use rail_base::station::{NodeNo, SectionNo};
-use rail_course::{Dwell, Release};
+use rail_course::{Dwell, Hold, Release};
 use std::alloc::{AllocError, Global};
 
 /// The grants of a train of which so many commands are granted now.
@@ -64,6 +65,29 @@ pub(crate) fn mark_releases(
                 release.route,
                 release.section,
                 first_tick(entry.2, release.event.has_happened(state), tick),
+            )
+        })
+        .collect(alloc)
+}
+
+/// The holds that have ended for a train that has passed these nodes by now.
+pub(crate) fn mark_holds(
+    alloc: Global,
+    passes: &[(NodeNo, Option<u64>)],
+    tick: u64,
+    holds: &[Hold],
+    old: &[(RouteNo, SectionNo, Option<u64>)],
+) -> Result<Vec<(RouteNo, SectionNo, Option<u64>)>, AllocError>
+    ensures { IfOk result (λ v. v.items ≡ mark_holds passes.now tick tick holds.now old.now) }
+{
+    holds
+        .iter()
+        .zip(old.iter())
+        .map(|(hold, entry)| {
+            (
+                hold.route,
+                hold.section,
+                first_tick(entry.2, has_ended(passes, hold, tick), tick),
             )
         })
         .collect(alloc)
@@ -139,6 +163,19 @@ pub(crate) fn none_released(
         .collect(alloc)
 }
 
+/// The holds of a path, none of them ended.
+pub(crate) fn none_ended(
+    alloc: Global,
+    holds: &[Hold],
+) -> Result<Vec<(RouteNo, SectionNo, Option<u64>)>, AllocError>
+    ensures { IfOk result (λ v. v.items ≡ map (λ h. (h.route, h.section, None)) holds.now) }
+{
+    holds
+        .iter()
+        .map(|hold| (hold.route, hold.section, None))
+        .collect(alloc)
+}
+
 /// The visits of a train, none of them made.
 pub(crate) fn none_visited(
     alloc: Global,
@@ -165,6 +202,31 @@ fn first_tick(old: Option<u64>, comes: bool, tick: u64) -> Option<u64>
         None if comes => Some(tick),
         None => None,
     }
+}
+
+/// The tick at which a train passed a node of its path.
+fn pass_mark(passes: &[(NodeNo, Option<u64>)], node: usize) -> Option<u64>
+    ensures { result ≡ pass_mark passes.now node }
+{
+    let pass = passes.get(node)?;
+    pass.1
+}
+
+/// Whether what came at a tick, if it did, is so many ticks ago by now.
+fn comes_by(came: Option<u64>, ticks: u64, now: u64) -> bool
+    ensures { result ≡ comes_by came ticks now }
+{
+    let Some(tick) = came else {
+        return false;
+    };
+    tick <= now && ticks <= now - tick
+}
+
+/// Whether a hold has ended by now.
+fn has_ended(passes: &[(NodeNo, Option<u64>)], hold: &Hold, tick: u64) -> bool
+    ensures { result ≡ comes_by (pass_mark passes.now hold.now.node) hold.now.event.ticks tick }
+{
+    comes_by(pass_mark(passes, hold.node), hold.event.ticks, tick)
 }
 
 /// The tick at which a train has stood its ticks at a visit, if it has to stand there.

@@ -5,28 +5,30 @@ ghost use Rattle.std.specs.Option.{ForSome, option_or};
 ghost use Rattle.rail_motion.specs.Ranges.{IsPlace};
 ghost use Rattle.rail_motion.specs.Track.{end_of, stretches_of};
 ghost use Rattle.rail_spec.specs.Dispatches.{state_of, track_end};
-ghost use Rattle.tick_sim.specs.Running.{CanMoveIn, IsReachedIn, moved_in, tick_in};
-ghost use Rattle.tick_sim.specs.Rides.{path_granted, track_granted, routes_granted, state_after};
+ghost use Rattle.tick_sim.specs.Running.{AreMovedIn, AreReachedIn, CanMoveIn, moved_in};
+ghost use Rattle.tick_sim.specs.Rides.{HasMoved, path_granted, routes_granted, track_granted};
 
 use crate::ride::Ride;
+use rail_base::history::TrainHistory;
 use rail_base::state::TrainState;
 use rail_course::{PathPrefix, PlannedJourneys, granted_on, state_of, stood_after};
 use rail_motion::{Ahead, advance};
 use std::alloc::{AllocError, Global};
 
-/// All trains after the tick: all grants are seen against the states before it.
+/// All trains after the tick: all grants are seen against the states and the histories before it.
 pub(crate) fn next_states<'a>(
     run: &'a PlannedJourneys<'a>,
     alloc: Global,
     states: &[TrainState],
+    histories: &[TrainHistory],
 ) -> Result<Vec<TrainState>, AllocError>
-    requires reached { IsReachedIn run.now states.now }
-    ensures { IfOk result (λ s. s.items ≡ tick_in run.now states.now) }
+    requires reached { AreReachedIn run.now states.now histories.now }
+    ensures { IfOk result (λ s. AreMovedIn run.now states.now histories.now s.items) }
 {
     let mut next = Vec::new(alloc);
     for journey in run.journeys.as_slice() {
         let ride = Ride { run, journey };
-        next.push(ride.next_state(states))?;
+        next.push(ride.next_state(states, histories))?;
     }
     Ok(next)
 }
@@ -89,14 +91,14 @@ impl<'a> Ride<'a> {
         }
     }
 
-    /// The train after the tick before which all trains are in these states.
-    fn next_state(&self, states: &[TrainState]) -> TrainState
-        requires { IsReachedIn self.now.run.now states.now }
-        ensures { result ≡ state_after self.now states.now }
+    /// The train after the tick before which all trains are in these states and have these histories.
+    fn next_state(&self, states: &[TrainState], histories: &[TrainHistory]) -> TrainState
+        requires { AreReachedIn self.now.run.now states.now histories.now }
+        ensures { HasMoved self.now states.now histories.now result }
     {
         let journey = self.journey;
         let state = state_of(states, journey.train_path.train);
-        let granted = granted_on(states, state.granted, journey.waits.as_slice());
+        let granted = granted_on(states, histories, state.granted, journey.waits.as_slice());
         self.move_train(state, granted)
     }
 }

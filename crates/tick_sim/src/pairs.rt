@@ -1,19 +1,19 @@
 //! What the commands of a plan wait for, pair by pair, and the journeys that this gives the trains.
 
-ghost use Rattle.std.specs.Prelude.{◌≡◌, ◌++◌, All, IfOk, OnOk, map};
+ghost use Rattle.std.specs.Prelude.{◌≡◌, ◌||◌, not, All, IfOk, OnOk, map};
 ghost use Rattle.rail_base.specs.Routes.{IsRoute};
 ghost use Rattle.rail_base.specs.Stations.{IsTrain};
 ghost use Rattle.rail_spec.specs.Feasible.{IsWellFormed};
-ghost use Rattle.rail_course.specs.Itineraries.{IsCommandIn};
+ghost use Rattle.rail_course.specs.Itineraries.{IsCommandIn, IsWaitIn, has_cleared_in};
 ghost use Rattle.rail_course.specs.Planned.{AllGiveInPlan};
-ghost use Rattle.tick_sim.specs.Pairs.{planned_train_waits, planned_waits, waits_among};
+ghost use Rattle.rail_course.specs.Waits.{AddsWaits};
+ghost use Rattle.tick_sim.specs.Pairs.{AreTrainWaitsInPlan, AreWaitsInPlan, have_cleared, precedes_in};
 
 use interlocking::Interlocking;
 use rail_base::list::List;
 use rail_base::plan::{Command, Plan};
-use rail_base::state::TrainEvent;
 use rail_base::station::TrainNo;
-use rail_course::{PlannedJourneys, PlannedTrainPaths};
+use rail_course::{PlannedJourneys, PlannedTrainPaths, Wait};
 use rail_plan::paths::precedes;
 use std::alloc::{AllocError, Global};
 
@@ -36,7 +36,7 @@ pub(crate) fn journeys<'a>(
 fn waits_of_all(
     planned: &PlannedTrainPaths,
     alloc: Global,
-) -> Result<Vec<List<Vec<TrainEvent>>>, AllocError>
+) -> Result<Vec<List<Vec<Wait>>>, AllocError>
     ensures { IfOk result (λ waits. AllGiveInPlan planned.now waits.items) }
 {
     let mut all = Vec::new(alloc);
@@ -48,22 +48,46 @@ fn waits_of_all(
     Ok(all)
 }
 
-/// Adds the waits of a command for those of a step that precede it.
+/// Adds what a command waits for of another, if that is to come before it.
 fn push_waits(
     planned: &PlannedTrainPaths,
-    waits: &mut Vec<TrainEvent>,
+    alloc: Global,
+    waits: &mut Vec<Wait>,
+    command: Command,
+    other: Command,
+) -> Result<(), AllocError>
+    requires command { IsRoute planned.now.train_paths.given.interlocking.now.routes command.route }
+    requires other { IsCommandIn planned.now.train_paths.given other }
+    ensures { OnOk result (AddsWaits waits.old.items waits.new.items
+        (λ ps. not (precedes_in planned.now other command)
+        || has_cleared_in planned.now.train_paths.given ps command other)
+        (IsWaitIn planned.now.train_paths.given)) }
+{
+    let interlocking = planned.train_paths.given.interlocking;
+    if !precedes(interlocking, planned.plan, other, command) {
+        return Ok(());
+    }
+    planned
+        .train_paths
+        .push_waits(alloc, waits, command, other)?;
+    Ok(())
+}
+
+/// Adds what a command waits for of a step.
+fn push_step(
+    planned: &PlannedTrainPaths,
+    alloc: Global,
+    waits: &mut Vec<Wait>,
     command: Command,
     step: &List<Command>,
 ) -> Result<(), AllocError>
     requires command { IsRoute planned.now.train_paths.given.interlocking.now.routes command.route }
     requires step { All (IsCommandIn planned.now.train_paths.given) step.now }
-    ensures { OnOk result (waits.new.items ≡ waits.old.items ++ waits_among planned.now command step.now) }
+    ensures { OnOk result (AddsWaits waits.old.items waits.new.items
+        (have_cleared planned.now command step.now) (IsWaitIn planned.now.train_paths.given)) }
 {
-    let interlocking = planned.train_paths.given.interlocking;
     for other in step.as_slice() {
-        if precedes(interlocking, planned.plan, *other, command) {
-            waits.push(planned.train_paths.wait_for(command, *other))?;
-        }
+        push_waits(planned, alloc, waits, command, *other)?;
     }
     Ok(())
 }
@@ -73,13 +97,13 @@ fn waits_of(
     planned: &PlannedTrainPaths,
     alloc: Global,
     command: Command,
-) -> Result<Vec<TrainEvent>, AllocError>
+) -> Result<Vec<Wait>, AllocError>
     requires { IsRoute planned.now.train_paths.given.interlocking.now.routes command.route }
-    ensures { IfOk result (λ w. w.items ≡ planned_waits planned.now command) }
+    ensures { IfOk result (λ w. AreWaitsInPlan planned.now command w.items) }
 {
     let mut waits = Vec::new(alloc);
     for step in planned.plan.steps.as_slice() {
-        push_waits(planned, &mut waits, command, step)?;
+        push_step(planned, alloc, &mut waits, command, step)?;
     }
     Ok(waits)
 }
@@ -89,9 +113,9 @@ fn waits_of_train(
     planned: &PlannedTrainPaths,
     alloc: Global,
     train: TrainNo,
-) -> Result<Vec<Vec<TrainEvent>>, AllocError>
+) -> Result<Vec<Vec<Wait>>, AllocError>
     requires { IsTrain planned.now.train_paths.given.interlocking.now.design.station train }
-    ensures { IfOk result (λ w. map (λ v. v.items) w.items ≡ planned_train_waits planned.now train) }
+    ensures { IfOk result (λ w. AreTrainWaitsInPlan planned.now train (map (λ v. v.items) w.items)) }
 {
     let mut waits = Vec::new(alloc);
     let train_path = planned.train_paths.train_path(train);
@@ -100,7 +124,8 @@ fn waits_of_train(
             train,
             route: *route,
         };
-        waits.push(waits_of(planned, alloc, command)?)?;
+        let own = waits_of(planned, alloc, command)?;
+        waits.push(own)?;
     }
     Ok(waits)
 }

@@ -63,7 +63,7 @@ fn verdict_by_ticks(run: &PlannedJourneys, alloc: Global, ticks: u64) -> Result<
     let mut history = first_histories(run, alloc)?;
     let last = ticks.min(run.interlocking.design.horizon());
     for tick in 1..last + 1 {
-        states = next_states(run, alloc, states.as_slice())?;
+        states = next_states(run, alloc, states.as_slice(), history.as_slice())?;
         history = next_histories(run, alloc, &history, states.as_slice(), tick)?;
         if let Some(violation) = first_violation(&run.interlocking.design, &history, tick) {
             return Ok(Verdict::Failed {

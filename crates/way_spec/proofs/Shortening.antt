@@ -12,7 +12,7 @@ use Rattle.rail_base.specs.declared.route.RouteNo.{RouteNo}
 use Rattle.rail_base.specs.declared.plan.Command.{Command}
 use Rattle.rail_base.specs.Numbering.{one_to}
 use Rattle.rail_base.specs.Stations.{trains, train_of, train_length, horizon}
-use Rattle.rail_spec.specs.Plans.{commands, contend, exits, is_command, is_executable, is_path, is_train, length_mm, one_each, path, release_offset, route_at, routes_given, share, shared, step_of}
+use Rattle.rail_spec.specs.Plans.{commands, contend, exits, is_command, is_executable, is_path, is_train, length_mm, one_each, path, release_offset, route_at, routes_given, share, own_shared, step_of}
 use Rattle.rail_spec.specs.Visits.{visit_tick}
 use Rattle.rail_spec.specs.Dispatches.{Dispatch, of_plan, state_at, state_of}
 use Rattle.rail_spec.specs.Requirements.{both, meets, visit_numbers}
@@ -122,7 +122,7 @@ module _ (d : Station) (routes : List Route) where
       let r = route_at routes e.route in
       let q = route_at routes c.route in
       is_train e.train c.train || not (share r q) || before c e
-      || (before e c && list_all (clears_in (routes_between before up_to commands e c) e) (shared r q))) commands) commands
+      || (before e c && list_all (clears_in (routes_between before up_to commands e c) e) (own_shared r q))) commands) commands
 
   executable_is : (plan : List (List Command)) → is_executable d routes plan ≡ executable_in (before plan) (up_to plan) (commands plan)
   executable_is plan = refl

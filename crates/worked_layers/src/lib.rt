@@ -102,6 +102,7 @@ fn is_same_train(one: &TrainHistory, other: &TrainHistory) -> bool {
     one.grants.as_slice() == other.grants.as_slice()
         && one.passes.as_slice() == other.passes.as_slice()
         && one.releases.as_slice() == other.releases.as_slice()
+        && one.holds.as_slice() == other.holds.as_slice()
         && one.visits.as_slice() == other.visits.as_slice()
         && one.dwells.as_slice() == other.dwells.as_slice()
 }

@@ -4,7 +4,7 @@ use Rattle.rail_base.specs.Routes.{IsRoute}
 use Rattle.bound_spec.specs.declared.Place.{Place}
 use Rattle.bound_spec.specs.Validity.{place_in_design}
 use Rattle.bound_design.specs.Covered.{comes_before_in, follows_among}
-use Rattle.bound_design.proofs.Paired.{kept_there, routes_there}
+use Rattle.bound_design.proofs.LegRoutes.{kept_there, routes_there}
 use Rattle.bound_design.proofs.before.comes_before.Goals as goal
 
 pub follow_named-requires-clause-next : goal.follow_named-requires-clause-next

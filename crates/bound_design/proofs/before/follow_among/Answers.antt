@@ -6,7 +6,7 @@ use Rattle.cone_spec.specs.Cones.{has_route}
 use Rattle.cone_spec.specs.Validity.{from_boundary}
 use Rattle.cone_form.proofs.Walks.{and_then, and_else}
 use Rattle.bound_design.specs.Covering.{leads_into}
-use Rattle.bound_design.proofs.Paired.{all_same}
+use Rattle.bound_design.proofs.LegRoutes.{all_same}
 use Rattle.bound_design.proofs.before.follow_among.Goals as goal
 
 pub returns-then-not-none_is_first : goal.returns-then-not-none_is_first

@@ -5,7 +5,7 @@ use Rattle.rail_base.specs.Numbering.{after_first}
 use Rattle.rail_spec.specs.Plans.{exits, length_mm, route_at, route_numbers}
 use Rattle.rail_spec.specs.Places.{may_visit}
 use Rattle.bound_spec.specs.Certificates.{first_in}
-use Rattle.bound_design.proofs.Paired.{all_same}
+use Rattle.bound_design.proofs.LegRoutes.{all_same}
 use Rattle.bound_design.proofs.Earlier.{at_end}
 use Rattle.bound_design.proofs.beginning.is_made_where_it_exits.Goals as goal
 

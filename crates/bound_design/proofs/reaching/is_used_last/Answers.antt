@@ -1,7 +1,7 @@
 use Rattle.std.proofs.Common.{ap, ◌∙◌}
 use Rattle.bound_design.specs.Named.{place_fits}
 use Rattle.bound_design.proofs.Ending.{last_passes}
-use Rattle.bound_design.proofs.Paired.{is_leg}
+use Rattle.bound_design.proofs.LegRoutes.{is_leg}
 use Rattle.bound_design.proofs.reaching.is_used_last.Goals as goal
 
 pub is_used-requires : goal.is_used-requires

@@ -5,7 +5,7 @@ use Rattle.bound_spec.specs.Validity.{is_just}
 use Rattle.bound_design.specs.Covered.{reaches_in}
 use Rattle.bound_design.specs.Named.{place_fits}
 use Rattle.bound_design.proofs.Ending.{last_passes}
-use Rattle.bound_design.proofs.Paired.{is_leg}
+use Rattle.bound_design.proofs.LegRoutes.{is_leg}
 use Rattle.bound_design.proofs.reaching.reaches_target.Goals as goal
 
 pub is_visited-requires : goal.is_visited-requires

@@ -1,7 +1,7 @@
 use Rattle.std.proofs.Common.{Bool, List, false, ◌||◌, not, ap, ap₂, ◌∙◌}
 use Rattle.rail_base.specs.Numbering.{entry}
 use Rattle.rail_spec.specs.Plans.{route_at, route_numbers}
-use Rattle.bound_design.proofs.Paired.{all_same}
+use Rattle.bound_design.proofs.LegRoutes.{all_same}
 use Rattle.bound_design.proofs.tracks.open_routes.Goals as goal
 
 pub returns : goal.returns

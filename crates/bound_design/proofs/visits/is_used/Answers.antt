@@ -2,7 +2,7 @@ use Rattle.std.proofs.Common.{All, List, sym, ap, subst, ◌∙◌}
 use Rattle.rail_base.specs.declared.route.RouteNo.{RouteNo}
 use Rattle.rail_base.specs.Routes.{IsRoute}
 use Rattle.bound_spec.specs.Validity.{place_in_design}
-use Rattle.bound_design.proofs.Paired.{kept_there}
+use Rattle.bound_design.proofs.LegRoutes.{kept_there}
 use Rattle.bound_design.proofs.visits.is_used.Goals as goal
 
 pub is_used_among-requires-clause-kept : goal.is_used_among-requires-clause-kept

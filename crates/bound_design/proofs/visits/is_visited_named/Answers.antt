@@ -5,7 +5,7 @@ use Rattle.rail_spec.specs.Plans.{is_route, route_at, route_numbers}
 use Rattle.rail_spec.specs.Places.{may_visit}
 use Rattle.cone_spec.specs.Validity.{from_boundary}
 use Rattle.bound_spec.specs.Validity.{ends_at_signal}
-use Rattle.bound_design.proofs.Paired.{all_same}
+use Rattle.bound_design.proofs.LegRoutes.{all_same}
 use Rattle.bound_design.proofs.Earlier.{turned, all_true, never_earlier, earlier}
 use Rattle.bound_design.proofs.visits.is_visited_named.Goals as goal
 

@@ -12,4 +12,4 @@ returns c =
     let t6 = then_as _ _ _ _ _ t5 c.in_ok-extend_from_slice-4.ensures.items refl in
     let t7 = then_as _ _ _ _ _ t6 c.in_ok-put_route-2.ensures refl in
     let t8 = then_as _ _ _ _ _ t7 c.in_ok-extend_from_slice-5.ensures.items refl in
-    then_as _ _ _ _ _ t8 c.in_ok-put_shared.ensures refl
+    then_as _ _ _ _ _ t8 c.in_ok-put_cleared.ensures refl

@@ -1,20 +1,24 @@
-use Rattle.std.proofs.Common.{◌==◌, All, length, refl, sym, subst, ◌∙◌}
-use Rattle.dispatcher.specs.Queues.{IsWithin, queue_at}
-use Rattle.dispatcher.proofs.Gathering.{at_most, cleared_more}
+use Rattle.std.proofs.Common.{◌==◌, refl, ◌∙◌}
+use Rattle.rail_base.specs.declared.station.SectionNo.{SectionNo}
+use Rattle.rail_course.specs.declared.waits.Wait.{Wait}
+use Rattle.rail_spec.specs.Plans.{is_train}
+use Rattle.dispatcher.specs.Queues.{queue_at}
+use Rattle.dispatcher.specs.Turned.{of_train}
+use Rattle.dispatcher.proofs.Gathering.{at_most, filter-twice, left_more}
 use Rattle.dispatcher.proofs.enter.leave.Goals as goal
 
-pub loop-part-init : goal.loop-part-init
-loop-part-init c = record { many = refl; left = λ z. refl }
+pub loop-section-init : goal.loop-section-init
+loop-section-init c = record { many = refl; left = λ z. refl }
 
-pub empty-requires-clause-at_least_one : goal.empty-requires-clause-at_least_one
-empty-requires-clause-at_least_one c = ((subst (All (λ p. IsWithin (length c.args.queues.now.items) p.0)) (sym c.as_slice-part-items.ensures) c.requires) c.loop-part.part-index _ c.loop-part-test.true).0
+pub keep-requires-clause-at_least_one : goal.keep-requires-clause-at_least_one
+keep-requires-clause-at_least_one c = (c.requires c.loop-section.section-index _ c.loop-section-test.true).0
 
-pub empty-requires-clause-within : goal.empty-requires-clause-within
-empty-requires-clause-within c =
-    at_most _ _ _ c.loop-part.invariant.many ((subst (All (λ p. IsWithin (length c.args.queues.now.items) p.0)) (sym c.as_slice-part-items.ensures) c.requires) c.loop-part.part-index _ c.loop-part-test.true).1
+pub keep-requires-clause-within : goal.keep-requires-clause-within
+keep-requires-clause-within c = at_most _ _ _ c.loop-section.invariant.many (c.requires c.loop-section.section-index _ c.loop-section-test.true).1
 
-pub loop-part-preserved : goal.loop-part-preserved
-loop-part-preserved c = record {
-  many = c.empty.ensures.same_length ∙ c.loop-part.invariant.many;
-  left = λ z. cleared_more (λ p. p.0.0 == z.0) c.as_slice-part-items.result.now c.loop-part.part-index _ c.loop-part-test.true (queue_at c.empty.new.lists.items z) (queue_at c.loop-part.queues.items z) (queue_at c.args.queues.now.items z) (c.empty.ensures.empty z.0) (c.loop-part.invariant.left z);
+pub loop-section-preserved : goal.loop-section-preserved
+loop-section-preserved c = record {
+  many = c.keep.ensures.same_length ∙ c.loop-section.invariant.many;
+  left = λ z. left_more (of_train c.args.train) (λ ws. filter-twice (λ (w : Wait). is_train w.event.train c.args.train) ws) (λ (y : SectionNo). y.0 == z.0) c.args.sections.now c.loop-section.section-index _ c.loop-section-test.true (queue_at c.keep.new.lists.items z) (queue_at c.loop-section.queues.items z) (queue_at c.args.queues.now.items z)
+      (c.in_ok-keep.ensures.kept z.0) (c.loop-section.invariant.left z);
 }

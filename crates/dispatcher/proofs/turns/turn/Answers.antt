@@ -1,8 +1,6 @@
-use Rattle.std.proofs.Common.{◌++◌, map, ap, ◌∙◌}
-use Rattle.rail_base.specs.Routes.{has_section, route_at}
-use Rattle.dispatcher.specs.Queues.{on_section, queue_at}
-use Rattle.dispatcher.specs.Waits.{wait_in}
-use Rattle.dispatcher.proofs.Gathering.{turned}
+use Rattle.std.proofs.Common.{◌++◌, flat_map, ap, ◌∙◌}
+use Rattle.dispatcher.specs.Queues.{on_section}
+use Rattle.dispatcher.specs.Waits.{waits_at}
 use Rattle.dispatcher.proofs.turns.turn.Goals as goal
 
 pub returns-clause-turned : goal.returns-clause-turned
@@ -10,5 +8,4 @@ returns-clause-turned c = λ z.
     let given = c.args.train_paths.now.given in
     let routes = given.interlocking.now.routes in
     c.in_ok-enter_all.ensures.entered z
-    ∙ ap (λ q. q ++ map (wait_in given z) (on_section routes z c.args.step.now)) (c.leave_all.ensures.left z)
-    ∙ turned (wait_in given z) (λ x. has_section (route_at routes x.route) z) c.args.step.now (queue_at c.args.queues.now.items z)
+    ∙ ap (λ q. q ++ flat_map (waits_at given z) (on_section routes z c.args.step.now)) (c.in_ok-leave_all.ensures.left z)

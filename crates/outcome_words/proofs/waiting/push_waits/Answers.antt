@@ -23,10 +23,10 @@ loop-index-preserved c =
     elim c.match-wait_of.branch [
       | in-Some+in_ok-line+in_ok-push w ↦
           let line = w.in_ok-line.line in
-          let told : tell (i + 1, grant) ≡ Some line.items = ap (option_map (wait_text run.interlocking.now.design.station t)) (sym c.wait_of.ensures ∙ w.in-Some.is) ∙ ap Some (sym w.in_ok-line.ensures) in
+          let told : tell (i + 1, grant) ≡ Some line.items = ap (option_map (wait_text run.interlocking.now.design.station run.interlocking.now.routes t)) (sym c.wait_of.ensures ∙ w.in-Some.is) ∙ ap Some (sym w.in_ok-line.ensures) in
           rw (w.lines-is, w.in_ok-push.ensures.items) (one_told (enumerate_from 1 grants) i _ (i + 1, grant) (rw length-enumerate_from c.loop-index-test.true) at tell old vs.items line c.loop-index.invariant told)
       | in_default w ↦
-          let told : tell (i + 1, grant) ≡ None = ap (option_map (wait_text run.interlocking.now.design.station t)) (sym c.wait_of.ensures ∙ w.in_default.is) in
+          let told : tell (i + 1, grant) ≡ None = ap (option_map (wait_text run.interlocking.now.design.station run.interlocking.now.routes t)) (sym c.wait_of.ensures ∙ w.in_default.is) in
           rw (w.lines-is) (none_told (enumerate_from 1 grants) i _ (i + 1, grant) (rw length-enumerate_from c.loop-index-test.true) at tell old (lines_of vs.items) c.loop-index.invariant told)
     ]
 

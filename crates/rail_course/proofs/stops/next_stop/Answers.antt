@@ -1,5 +1,5 @@
 -- The first visit at which it has not stood long enough.
-use Rattle.std.proofs.Common.{◌≡◌, ℕ, Bool, nat_lt, length, sym, ap, ◌∙◌, rules, tests}
+use Rattle.std.proofs.Common.{◌≡◌, Bool, nat_lt, length, sym, ap, ◌∙◌, rules, tests}
 use Rattle.std.specs.List.{position_from}
 use Rattle.std.proofs.lemmas.Bool.{ltb-true, ltb-false}
 use Rattle.std.proofs.lemmas.Iterator.{YieldsList-from_slice}

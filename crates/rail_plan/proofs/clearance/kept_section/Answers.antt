@@ -1,41 +1,23 @@
-use Rattle.std.proofs.Common.{ℤ, pos, ◌+◌, Bool, cond, List, ◌∷◌, Option, drop, get_or, map, filter, sym, ap, ◌∙◌}
-use Rattle.std.proofs.lemmas.List.{drop_all, drop_more}
+use Rattle.std.proofs.Common.{List, map, sym, ◌∙◌}
 use Rattle.rail_base.specs.declared.station.SectionNo.{SectionNo}
+use Rattle.rail_base.specs.declared.route.OverlapSection.{OverlapSection}
 use Rattle.rail_base.specs.declared.route.Route.{Route}
-use Rattle.rail_base.specs.Numbering.{first_of_list}
+use Rattle.rail_base.specs.Routes.{own_sections, route_at}
 use Rattle.rail_plan.specs.Holds.{is_kept_from}
-use Rattle.rail_plan.proofs.Contending.{none_taken}
-use Rattle.rail_plan.proofs.Within.{part_within}
+use Rattle.rail_plan.proofs.Firsts.{kept_behind, kept_in_front}
 use Rattle.rail_plan.proofs.clearance.kept_section.Goals as goal
 
-pub is_kept_from-requires-clause-at_least_one : goal.is_kept_from-requires-clause-at_least_one
-is_kept_from-requires-clause-at_least_one c =
-    (part_within c.args.interlocking.now c.args.command.route c.as_slice-part-items.result.now c.loop-part.part-index _ (c.as_slice-part-items.ensures ∙ ap (λ (r : Route). r.sections) c.route_at.ensures) c.loop-part-test.true _ c.requires.every_section).0
+abbrev beside : Route → List SectionNo
+beside r = map (λ (p : OverlapSection). p.section) r.overlaps
 
-pub is_kept_from-requires-clause-within : goal.is_kept_from-requires-clause-within
-is_kept_from-requires-clause-within c =
-    (part_within c.args.interlocking.now c.args.command.route c.as_slice-part-items.result.now c.loop-part.part-index _ (c.as_slice-part-items.ensures ∙ ap (λ (r : Route). r.sections) c.route_at.ensures) c.loop-part-test.true _ c.requires.every_section).1
-
-pub is_kept_from-requires-clause-contended : goal.is_kept_from-requires-clause-contended
-is_kept_from-requires-clause-contended c = λ none.
-    none_taken c.args.interlocking.now.routes c.args.step.now c.args.command c.as_slice-part-items.result.now c.loop-part.part-index _ (c.as_slice-part-items.ensures ∙ ap (λ (r : Route). r.sections) c.route_at.ensures) c.loop-part-test.true (sym c.is_contended-contended.ensures ∙ none)
+pub returns-then-is_some : goal.returns-then-is_some
+returns-then-is_some c =
+    let route = route_at c.args.interlocking.now.routes c.args.command.route in
+    kept_in_front (is_kept_from c.args.interlocking.now.routes c.args.holds.now c.args.step.now c.args.command.train) (own_sections route) (beside route)
+    c.kept_own_section-own.result c.kept_own_section-own.ensures (sym c.is_some.ensures ∙ c.if-is_some.true)
 
 pub returns : goal.returns
 returns c =
-    let test : SectionNo → Bool = is_kept_from c.args.interlocking.now.routes c.args.holds.now c.args.step.now c.args.command.train in
-    let first : List (SectionNo × ℤ) → Option SectionNo = λ parts. first_of_list (filter test (map (λ p. p.0) parts)) in
-    let none = drop_all c.loop-part.part-index c.as_slice-part-items.result.now c.loop-part-test.false in
-    sym (ap first none) ∙ c.loop-part.invariant ∙ ap first (c.as_slice-part-items.ensures ∙ ap (λ (r : Route). r.sections) c.route_at.ensures)
-
-pub returns-then-is_kept_from : goal.returns-then-is_kept_from
-returns-then-is_kept_from c =
-    let test : SectionNo → Bool = is_kept_from c.args.interlocking.now.routes c.args.holds.now c.args.step.now c.args.command.train in
-    let first : List (SectionNo × ℤ) → Option SectionNo = λ parts. first_of_list (filter test (map (λ p. p.0) parts)) in
-    let parts = c.as_slice-part-items.result.now in
-    let i = c.loop-part.part-index in
-    let none : SectionNo × ℤ = (record { 0 = 0 }, pos 0) in
-    let here = get_or parts i none in
-    let rest = filter test (map (λ p. p.0) (drop (i + 1) parts)) in
-    let held = sym c.is_kept_from.ensures ∙ c.if-is_kept_from.true in
-    sym (ap first (drop_more parts i none c.loop-part-test.true) ∙ ap (λ b. first_of_list (cond b (here.0 ∷ rest) rest)) held)
-    ∙ (c.loop-part.invariant ∙ ap first (c.as_slice-part-items.ensures ∙ ap (λ (r : Route). r.sections) c.route_at.ensures))
+    let route = route_at c.args.interlocking.now.routes c.args.command.route in
+    kept_behind (is_kept_from c.args.interlocking.now.routes c.args.holds.now c.args.step.now c.args.command.train) (own_sections route) (beside route)
+    c.kept_own_section-own.result c.kept_overlap_section.result c.kept_own_section-own.ensures (sym c.is_some.ensures ∙ c.if-is_some.false) c.kept_overlap_section.ensures

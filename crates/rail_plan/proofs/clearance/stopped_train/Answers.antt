@@ -1,7 +1,7 @@
 use Rattle.std.proofs.Common.{sym, ap, ◌∙◌}
 use Rattle.rail_base.specs.Numbering.{first_of_list}
 use Rattle.rail_plan.proofs.Holding.{held_sections_are}
-use Rattle.rail_plan.proofs.Named.{first_is_route, trains_are_long}
+use Rattle.rail_plan.proofs.Named.{first_is_route}
 use Rattle.rail_plan.proofs.Stopped.{stopped_none, stopped_free, stopped_there}
 use Rattle.rail_plan.proofs.clearance.stopped_train.Goals as goal
 
@@ -18,12 +18,12 @@ pub returns-in_err-section : goal.returns-in_err-section
 returns-in_err-section c =
     let d = c.args.interlocking.now.design.station in
     let routes = c.args.interlocking.now.routes in
-    let same = held_sections_are d routes (trains_are_long d c.args.interlocking.now.design.admitted) c.args.step.now c.requires.trains c.args.before.now c.args.holds.now c.requires.holds (record { train = c.args.train; route = c.in_ok-route.route }) in
+    let same = held_sections_are d routes c.args.step.now c.args.before.now c.args.holds.now c.requires.holds (record { train = c.args.train; route = c.in_ok-route.route }) in
     c.from_residual-in_err-section.ensures ∙ stopped_free d routes c.args.before.now c.args.step.now c.args.train c.in_ok-route.route c.requires.each_once (sym c.in_ok-route.was ∙ c.first_given.ensures) (sym c.in_err-section.was ∙ c.kept_section.ensures ∙ ap first_of_list same)
 
 pub returns : goal.returns
 returns c =
     let d = c.args.interlocking.now.design.station in
     let routes = c.args.interlocking.now.routes in
-    let same = held_sections_are d routes (trains_are_long d c.args.interlocking.now.design.admitted) c.args.step.now c.requires.trains c.args.before.now c.args.holds.now c.requires.holds (record { train = c.args.train; route = c.in_ok-route.route }) in
+    let same = held_sections_are d routes c.args.step.now c.args.before.now c.args.holds.now c.requires.holds (record { train = c.args.train; route = c.in_ok-route.route }) in
     stopped_there d routes c.args.before.now c.args.step.now c.args.train c.in_ok-route.route c.in_ok-section.section c.requires.each_once (sym c.in_ok-route.was ∙ c.first_given.ensures) (sym c.in_ok-section.was ∙ c.kept_section.ensures ∙ ap first_of_list same)

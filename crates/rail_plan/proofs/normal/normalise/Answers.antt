@@ -1,6 +1,5 @@
 use Rattle.std.proofs.Common.{sym, ◌∙◌, arith}
 use Rattle.rail_plan.proofs.Joining.{told_of}
-use Rattle.rail_plan.proofs.Named.{trains_are_long}
 use Rattle.rail_plan.proofs.Trimmed.{as_good_both, trimmed_is_as_good, trimmed_no_later}
 use Rattle.rail_plan.proofs.normal.normalise.Goals as goal
 
@@ -9,7 +8,7 @@ loop-steps-init c =
     let d = c.args.interlocking.now.design.station in
     let front = c.trimmed-steps.ensures.front in
     record {
-      good = trimmed_is_as_good d c.args.interlocking.now.routes (trains_are_long d c.args.interlocking.now.design.admitted) front.0 c.trimmed-steps.result c.args.plan.now.steps (sym c.in_ok-copy_of.ensures ∙ front.1);
+      good = trimmed_is_as_good d c.args.interlocking.now.routes front.0 c.trimmed-steps.result c.args.plan.now.steps (sym c.in_ok-copy_of.ensures ∙ front.1);
       full = c.trimmed-steps.ensures.last;
     }
 
@@ -30,6 +29,6 @@ loop-steps-preserved c =
     let new = c.trimmed-steps-in-Some.result in
     record {
       good = as_good_both d routes c.args.plan.now.steps c.loop-steps.steps new c.loop-steps.invariant.good
-          (as_good_both d routes c.loop-steps.steps c.in-Some.earlier new told.0 (trimmed_is_as_good d routes (trains_are_long d c.args.interlocking.now.design.admitted) front.0 new c.in-Some.earlier front.1));
+          (as_good_both d routes c.loop-steps.steps c.in-Some.earlier new told.0 (trimmed_is_as_good d routes front.0 new c.in-Some.earlier front.1));
       full = c.trimmed-steps-in-Some.ensures.last;
     }

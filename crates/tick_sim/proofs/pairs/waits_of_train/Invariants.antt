@@ -1,7 +1,10 @@
-use Rattle.std.proofs.Common.{◌≡◌, ◌++◌, drop, map}
-use Rattle.tick_sim.specs.Pairs.{planned_train_waits, planned_waits}
+use Rattle.std.proofs.Common.{map, take}
+use Rattle.rail_spec.specs.Plans.{preceding}
+use Rattle.rail_course.specs.Itineraries.{waiting_in}
+use Rattle.rail_course.specs.Ready.{AreWaitsOf}
 use Rattle.tick_sim.proofs.pairs.waits_of_train.Given as goal
 
 abbrev pub invariant-loop-route : goal.invariant-loop-route
 invariant-loop-route l =
-    map (λ v. v.items) l.waits.items ++ map (λ r. planned_waits l.planned (record { train = l.train; route = r })) (drop l.route-index l.route-items) ≡ planned_train_waits l.planned l.train
+    let given = l.planned.train_paths.given in
+    AreWaitsOf given.interlocking.now.design.station given.interlocking.now.routes (waiting_in given (preceding given.interlocking.now.routes l.planned.plan.now.steps)) l.train (take l.route-index l.route-items) (map (λ v. v.items) l.waits.items)

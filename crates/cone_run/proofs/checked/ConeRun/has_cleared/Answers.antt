@@ -1,9 +1,7 @@
 use Rattle.std.proofs.Common.{ap, ap₂, ◌∙◌}
-use Rattle.std.specs.List.{list_all}
-use Rattle.rail_base.specs.Routes.{route_at, shared}
-use Rattle.rail_require.specs.Ticks.{history_of, is_by}
+use Rattle.rail_base.specs.Routes.{route_at}
 use Rattle.cone_spec.specs.Cones.{of_cone}
-use Rattle.cone_run.specs.Asked.{release_in}
+use Rattle.cone_run.specs.Asked.{released_by}
 use Rattle.cone_run.specs.Runs.{last_tick}
 use Rattle.cone_run.proofs.Asking.{cleared_asked}
 use Rattle.cone_run.proofs.Looking.{listed_there}
@@ -24,6 +22,6 @@ returns c =
     let first = c.args.first in
     let there = (listed_there d routes l.cone.now l.known first c.args.second c.requires.listed_pair).0.0 in
     c.all_released.ensures
-    ∙ ap₂ (λ r q. list_all (λ z. is_by c.args.tick (release_in (history_of c.args.self.now.history.now first.train).releases first.route z)) (shared r q)) c.route_at.ensures c.route_at-2.ensures
-    ∙ ap (λ h. list_all (λ z. is_by c.args.tick (release_in (history_of h first.train).releases first.route z)) (shared (route_at routes first.route) (route_at routes c.args.second.route))) c.args.self.now.is_history
+    ∙ ap₂ (released_by c.args.self.now.history.now first c.args.tick) c.route_at.ensures c.route_at-2.ensures
+    ∙ ap (λ h. released_by h first c.args.tick (route_at routes first.route) (route_at routes c.args.second.route)) c.args.self.now.is_history
     ∙ cleared_asked d routes p last first there c.args.tick c.args.second c.requires.tick

@@ -1,18 +1,23 @@
-use Rattle.std.proofs.Common.{◌≡◌, ◌+◌, ◌++◌, [], ◌∷◌, Bool, true, Vec, Global, List, drop, get_or, filter, map, ap, sym, subst, refl, ◌∙◌}
+use Rattle.std.proofs.Common.{◌≡◌, ◌||◌, not, [], ◌∷◌, Bool, true, Vec, Global, List, get_or, filter, map, ap, sym, subst, refl, ◌∙◌, arith}
+use Rattle.std.specs.List.{list_all, list_any}
+use Rattle.std.proofs.lemmas.List.{take_all}
 use Rattle.rail_base.specs.declared.plan.Command.{Command}
+use Rattle.rail_base.specs.Members.{In}
 use Rattle.rail_base.proofs.Members.{map-map}
-use Rattle.rail_base.specs.declared.state.TrainEvent.{TrainEvent}
+use Rattle.rail_base.proofs.Contained.{in_at}
 use Rattle.rail_spec.specs.Plans.{is_command}
 use Rattle.cone_spec.specs.Cones.{has_pair, is_pair}
-use Rattle.std.specs.List.{list_any}
 use Rattle.interlocking.specs.declared.railway.Interlocking.{Interlocking}
+use Rattle.rail_course.specs.declared.waits.Wait.{Wait}
 use Rattle.rail_course.specs.Tracks.{IsCommand}
-use Rattle.rail_course.specs.Itineraries.{wait_in}
+use Rattle.rail_course.specs.Itineraries.{IsWaitIn, has_cleared_in}
+use Rattle.rail_course.specs.Waits.{AddsWaits}
+use Rattle.rail_course.proofs.Merging.{as_more, goes_on, none_more}
 use Rattle.clause_spec.specs.Variables.{pairs}
-use Rattle.cone_run.specs.Paths.{waits_in}
-use Rattle.cone_run.proofs.Listing.{listed_rivals, listed_next, unlisted_next}
+use Rattle.cone_run.proofs.Listing.{listed_rivals}
 use Rattle.cone_run.proofs.Looking.{listed_there as listed_commands}
-use Rattle.cone_run.proofs.paths.ConePaths.waits_of.Goals.{then-is_among+in_ok-push, else-is_among}
+use Rattle.cone_run.proofs.Waiting.{waits_are}
+use Rattle.cone_run.proofs.paths.ConePaths.waits_of.Goals.{then-is_among+in_ok-push_waits, else-is_among}
 use Rattle.cone_run.proofs.paths.ConePaths.waits_of.Goals as goal
 
 none : Command
@@ -24,24 +29,13 @@ map_same (e ∷ cs) = ap (λ es. e ∷ es) (map_same cs)
 
 pub loop-other-init : goal.loop-other-init
 loop-other-init c =
-    let d = c.args.self.now.layout.contention.interlocking.now.design.station in
-    let routes = c.args.self.now.layout.contention.interlocking.now.routes in
-    let k = c.args.self.now.layout.cone.now in
-    let wait = wait_in c.args.self.now.train_paths.given c.args.command in
-    let listed : Command → Bool = λ e. has_pair k e c.args.command in
-    let others : List Command = c.deref-other-items.result.now in
-    let pair : Command → Command × Command = λ e. (c.args.command, e) in
-    let second : Command × Command → Command = λ p. p.1 in
-    let run : map pair others ≡ filter (λ p. is_command p.0 c.args.command) (pairs d routes) =
-    ap (map pair) c.deref-other-items.ensures.value ∙ (c.in_ok-others.ensures.pairs ∙ ap (filter (λ (p : Command × Command). is_command p.0 c.args.command)) c.args.self.now.layout.contention.ordered) in
-    let items : others ≡ map second (filter (λ p. is_command p.0 c.args.command) (pairs d routes)) = sym (map_same others) ∙ (sym (map-map second pair others) ∙ ap (map second) run) in
-    ap (λ ws. ws ++ map wait (filter listed others)) c.new-waits.ensures.items
-    ∙ (ap (λ (es : List Command). map wait (filter listed es)) items
-    ∙ ap (map wait) (listed_rivals d routes k c.args.self.now.layout.known c.args.command))
+    let self = c.args.self.now in
+    subst (λ ws. AddsWaits [] ws (λ ps. list_all (λ e. not (has_pair self.layout.cone.now e c.args.command) || has_cleared_in self.train_paths.given ps c.args.command e) []) (λ w. (e : Command) × In e c.deref-other-items.result.now × IsWaitIn self.train_paths.given w)) (sym c.new-waits.ensures.items)
+    (none_more [] (λ w. (e : Command) × In e c.deref-other-items.result.now × IsWaitIn self.train_paths.given w) _ (λ ps. refl))
 
-pub wait_for-requires-clause-other : goal.wait_for-requires-clause-other
+pub push_waits-requires-clause-other : goal.push_waits-requires-clause-other
 unfolding none
-wait_for-requires-clause-other c =
+push_waits-requires-clause-other c =
     let k = c.args.self.now.layout.cone.now in
     let e : Command = get_or c.deref-other-items.result.now c.loop-other.other-index none in
     let listed : has_pair k e c.args.command ≡ true = sym (ap (list_any (is_pair e c.args.command)) c.sorted_pairs-listed.ensures) ∙ (sym c.is_among.ensures ∙ c.if-is_among.true) in
@@ -50,16 +44,35 @@ wait_for-requires-clause-other c =
 pub loop-other-preserved : goal.loop-other-preserved
 unfolding none
 loop-other-preserved c =
-    let k = c.args.self.now.layout.cone.now in
-    let wait = wait_in c.args.self.now.train_paths.given c.args.command in
+    let self = c.args.self.now in
+    let given = self.train_paths.given in
+    let k = self.layout.cone.now in
     let run : List Command = c.deref-other-items.result.now in
-    let e : Command = get_or run c.loop-other.other-index none in
-    let listed : Command → Bool = λ e. has_pair k e c.args.command in
-    let is : c.is_among.result ≡ listed e = c.is_among.ensures ∙ ap (list_any (is_pair e c.args.command)) c.sorted_pairs-listed.ensures in
+    let i = c.loop-other.other-index in
+    let e : Command = get_or run i none in
+    let is : c.is_among.result ≡ has_pair k e c.args.command = c.is_among.ensures ∙ ap (list_any (is_pair e c.args.command)) c.sorted_pairs-listed.ensures in
+    goes_on (λ ps e. not (has_pair k e c.args.command) || has_cleared_in given ps c.args.command e) (λ (e : Command) (w : Wait). IsWaitIn given w) run i none [] c.loop-other.waits.items c.if-is_among.waits.items c.loop-other-test.true (
     elim c.if-is_among.branch [
-      | then-is_among+in_ok-push w ↦ listed_next wait listed run c.loop-other.other-index none c.loop-other-test.true c.loop-other.waits.items c.if-is_among.waits.items _ (sym is ∙ w.if-is_among.true)
-          (ap (λ (v : Vec TrainEvent Global). v.items) w.waits-is ∙ (w.in_ok-push.ensures.items ∙ ap (λ x. c.loop-other.waits.items ++ x ∷ [])
-          w.wait_for.ensures)) c.loop-other.invariant
-      | else-is_among w ↦ subst (λ (v : Vec TrainEvent Global). v.items ++ map wait (filter listed (drop (c.loop-other.other-index + 1) run)) ≡ waits_in c.args.self.now c.args.command) (sym w.waits-is)
-          (unlisted_next wait listed run c.loop-other.other-index none c.loop-other-test.true c.loop-other.waits.items _ (sym is ∙ w.if-is_among.false) c.loop-other.invariant)
-    ]
+      | then-is_among+in_ok-push_waits w ↦ subst (λ (v : Vec Wait Global). AddsWaits c.loop-other.waits.items v.items (λ ps. not (has_pair k e c.args.command) || has_cleared_in given ps c.args.command e) (IsWaitIn given)) (sym w.waits-is)
+          (as_more c.loop-other.waits.items _ (λ ps. has_cleared_in given ps c.args.command e) (λ ps. not (has_pair k e c.args.command) || has_cleared_in given ps c.args.command e) (IsWaitIn given) (IsWaitIn given)
+          (λ ps. ap (λ b. not b || has_cleared_in given ps c.args.command e) (sym w.if-is_among.true ∙ is)) (λ v h. h) w.in_ok-push_waits.ensures)
+      | else-is_among w ↦ subst (λ (v : Vec Wait Global). AddsWaits c.loop-other.waits.items v.items (λ ps. not (has_pair k e c.args.command) || has_cleared_in given ps c.args.command e) (IsWaitIn given)) (sym w.waits-is)
+          (none_more c.loop-other.waits.items (IsWaitIn given) (λ ps. not (has_pair k e c.args.command) || has_cleared_in given ps c.args.command e) (λ ps. ap (λ b. not b || has_cleared_in given ps c.args.command e) (sym is ∙ w.if-is_among.false)))
+    ]) c.loop-other.invariant (in_at run i none c.loop-other-test.true)
+
+pub returns : goal.returns
+returns c =
+    let self = c.args.self.now in
+    let d = self.layout.contention.interlocking.now.design.station in
+    let routes = self.layout.contention.interlocking.now.routes in
+    let k = self.layout.cone.now in
+    let listed : Command → Bool = λ e. has_pair k e c.args.command in
+    let others : List Command = c.deref-other-items.result.now in
+    let pair : Command → Command × Command = λ e. (c.args.command, e) in
+    let second : Command × Command → Command = λ p. p.1 in
+    let run : map pair others ≡ filter (λ p. is_command p.0 c.args.command) (pairs d routes) =
+    ap (map pair) c.deref-other-items.ensures.value ∙ (c.in_ok-others.ensures.pairs ∙ ap (filter (λ (p : Command × Command). is_command p.0 c.args.command)) self.layout.contention.ordered) in
+    let items : others ≡ map second (filter (λ p. is_command p.0 c.args.command) (pairs d routes)) = sym (map_same others) ∙ (sym (map-map second pair others) ∙ ap (map second) run) in
+    let past = c.loop-other-test.false in
+    waits_are self c.args.command c.loop-other.waits.items others (ap (filter listed) items ∙ listed_rivals d routes k self.layout.known c.args.command)
+    (as_more [] c.loop-other.waits.items _ _ _ _ (λ ps. ap (list_all (λ e. not (listed e) || has_cleared_in self.train_paths.given ps c.args.command e)) (take_all c.loop-other.other-index others (omega (arith, past)))) (λ w h. h) c.loop-other.invariant)

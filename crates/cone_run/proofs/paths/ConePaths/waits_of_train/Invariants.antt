@@ -1,7 +1,10 @@
-use Rattle.std.proofs.Common.{◌≡◌, ◌++◌, drop, map}
-use Rattle.cone_run.specs.Paths.{train_waits_in, waits_in}
+use Rattle.std.proofs.Common.{map, take}
+use Rattle.rail_course.specs.Itineraries.{waiting_in}
+use Rattle.rail_course.specs.Ready.{AreWaitsOf}
+use Rattle.cone_spec.specs.Cones.{of_cone}
 use Rattle.cone_run.proofs.paths.ConePaths.waits_of_train.Given as goal
 
 abbrev pub invariant-loop-route : goal.invariant-loop-route
 invariant-loop-route l =
-    map (λ v. v.items) l.waits.items ++ map (λ r. waits_in l.self (record { train = l.train; route = r })) (drop l.route-index l.route-items) ≡ train_waits_in l.self l.train
+    let given = l.self.train_paths.given in
+    AreWaitsOf given.interlocking.now.design.station given.interlocking.now.routes (waiting_in given (of_cone l.self.layout.cone.now).before) l.train (take l.route-index l.route-items) (map (λ v. v.items) l.waits.items)

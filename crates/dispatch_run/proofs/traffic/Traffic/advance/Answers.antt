@@ -22,8 +22,12 @@ next_states-requires g c =
     let tick = c.next_tick-tick.result in
     let found = c.next_tick-tick.ensures in
     let early : tick ≤ 86400 = (let w = found.within in let m = c.requires.1.1.1 in omega arith) in
-    let turn = turn_of d routes g.dispatch old.tick tick old.states.items old.looks.items progress.known found.after early (λ l m. found.least l (subst (In l) (sym c.as_slice.ensures.value) m)) in
-    (c.requires.0, subst (λ s. IsTurn d routes g.dispatch tick s c.as_slice-3.result.now) (sym c.as_slice-2.ensures.value) (subst (λ l. IsTurn d routes g.dispatch tick old.states.items l) (sym c.as_slice-3.ensures.value) turn))
+    let turn = turn_of d routes g.dispatch old.tick tick old.states.items old.histories.items old.looks.items progress.known progress.recorded found.after early (λ l m. found.least l (subst (In l) (sym c.as_slice.ensures.value) m)) in (
+      c.requires.0,
+      subst (λ s. IsTurn d routes g.dispatch tick s c.as_slice-3.result.now c.as_slice-4.result.now) (sym c.as_slice-2.ensures.value)
+          (subst (λ h. IsTurn d routes g.dispatch tick old.states.items h c.as_slice-4.result.now) (sym c.as_slice-3.ensures.value)
+          (subst (λ l. IsTurn d routes g.dispatch tick old.states.items old.histories.items l) (sym c.as_slice-4.ensures.value) turn)),
+    )
 
 pub next_histories-requires : goal.next_histories-requires
 next_histories-requires g c =
@@ -34,13 +38,13 @@ next_histories-requires g c =
     let tick = c.next_tick-tick.result in
     let found = c.next_tick-tick.ensures in
     let early : tick ≤ 86400 = (let w = found.within in let m = c.requires.1.1.1 in omega arith) in
-    let turn = turn_of d routes g.dispatch old.tick tick old.states.items old.looks.items progress.known found.after early (λ l m. found.least l (subst (In l) (sym c.as_slice.ensures.value) m)) in
+    let turn = turn_of d routes g.dispatch old.tick tick old.states.items old.histories.items old.looks.items progress.known progress.recorded found.after early (λ l m. found.least l (subst (In l) (sym c.as_slice.ensures.value) m)) in
     let states : c.in_ok-states.states.items ≡ map (looked_state d routes g.dispatch tick old.states.items old.looks.items) (trains d) =
-    c.in_ok-states.ensures ∙ ap₂ (λ s l. map (looked_state d routes g.dispatch tick s l) (trains d)) c.as_slice-2.ensures.value c.as_slice-3.ensures.value in (
+    c.in_ok-states.ensures ∙ ap₂ (λ s l. map (looked_state d routes g.dispatch tick s l) (trains d)) c.as_slice-2.ensures.value c.as_slice-4.ensures.value in (
       c.requires.0,
-      subst (λ s. AreToBeMarked d routes g.dispatch tick s c.as_slice-5.result.now old.histories.items) (sym c.as_slice-4.ensures.value)
-          (subst (λ l. AreToBeMarked d routes g.dispatch tick c.in_ok-states.states.items l old.histories.items) (sym c.as_slice-5.ensures.value)
-          (all_told d routes g.dispatch tick old.states.items old.looks.items turn c.in_ok-states.states.items states old.histories.items progress.recorded)),
+      subst (λ s. AreToBeMarked d routes g.dispatch tick s c.as_slice-6.result.now old.histories.items) (sym c.as_slice-5.ensures.value)
+          (subst (λ l. AreToBeMarked d routes g.dispatch tick c.in_ok-states.states.items l old.histories.items) (sym c.as_slice-6.ensures.value)
+          (all_told d routes g.dispatch tick old.states.items old.histories.items old.looks.items turn c.in_ok-states.states.items states)),
     )
 
 pub next_looks-requires : goal.next_looks-requires
@@ -52,13 +56,16 @@ next_looks-requires g c =
     let tick = c.next_tick-tick.result in
     let found = c.next_tick-tick.ensures in
     let early : tick ≤ 86400 = (let w = found.within in let m = c.requires.1.1.1 in omega arith) in
-    let turn = turn_of d routes g.dispatch old.tick tick old.states.items old.looks.items progress.known found.after early (λ l m. found.least l (subst (In l) (sym c.as_slice.ensures.value) m)) in
+    let turn = turn_of d routes g.dispatch old.tick tick old.states.items old.histories.items old.looks.items progress.known progress.recorded found.after early (λ l m. found.least l (subst (In l) (sym c.as_slice.ensures.value) m)) in
     let states : c.in_ok-states.states.items ≡ map (looked_state d routes g.dispatch tick old.states.items old.looks.items) (trains d) =
-    c.in_ok-states.ensures ∙ ap₂ (λ s l. map (looked_state d routes g.dispatch tick s l) (trains d)) c.as_slice-2.ensures.value c.as_slice-3.ensures.value in (
+    c.in_ok-states.ensures ∙ ap₂ (λ s l. map (looked_state d routes g.dispatch tick s l) (trains d)) c.as_slice-2.ensures.value c.as_slice-4.ensures.value in (
       c.requires.0,
-      subst (λ s. AreLookedAt d routes g.dispatch tick s c.as_slice-9.result.now) (sym c.as_slice-8.ensures.value)
-          (subst (λ l. AreLookedAt d routes g.dispatch tick c.in_ok-states.states.items l) (sym c.as_slice-9.ensures.value)
-          (all_looked d routes g.dispatch tick old.states.items old.looks.items turn c.in_ok-states.states.items states)),
+      (
+        subst (λ s. AreLookedAt d routes g.dispatch tick s c.as_slice-11.result.now) (sym c.as_slice-9.ensures.value)
+            (subst (λ l. AreLookedAt d routes g.dispatch tick c.in_ok-states.states.items l) (sym c.as_slice-11.ensures.value)
+            (all_looked d routes g.dispatch tick old.states.items old.histories.items old.looks.items turn c.in_ok-states.states.items states)),
+        c.as_slice-10.ensures.value ∙ c.in_ok-histories.ensures,
+      ),
     )
 
 pub returns-clause-is : goal.returns-clause-is
@@ -71,14 +78,14 @@ returns-clause-is g c =
     let found = c.next_tick-tick.ensures in
     let new = c.in_ok-histories.histories.items in
     let early : tick ≤ 86400 = (let w = found.within in let m = c.requires.1.1.1 in omega arith) in
-    let turn = turn_of d routes g.dispatch old.tick tick old.states.items old.looks.items progress.known found.after early (λ l m. found.least l (subst (In l) (sym c.as_slice.ensures.value) m)) in
+    let turn = turn_of d routes g.dispatch old.tick tick old.states.items old.histories.items old.looks.items progress.known progress.recorded found.after early (λ l m. found.least l (subst (In l) (sym c.as_slice.ensures.value) m)) in
     let states : c.in_ok-states.states.items ≡ map (looked_state d routes g.dispatch tick old.states.items old.looks.items) (trains d) =
-    c.in_ok-states.ensures ∙ ap₂ (λ s l. map (looked_state d routes g.dispatch tick s l) (trains d)) c.as_slice-2.ensures.value c.as_slice-3.ensures.value in
-    let told = all_told d routes g.dispatch tick old.states.items old.looks.items turn c.in_ok-states.states.items states old.histories.items progress.recorded in
+    c.in_ok-states.ensures ∙ ap₂ (λ s l. map (looked_state d routes g.dispatch tick s l) (trains d)) c.as_slice-2.ensures.value c.as_slice-4.ensures.value in
+    let told = all_told d routes g.dispatch tick old.states.items old.histories.items old.looks.items turn c.in_ok-states.states.items states in
     record {
-      known = subst (λ s. IsKnown d routes g.dispatch tick s c.in_ok-looks.looks.items) c.as_slice-8.ensures.value c.in_ok-looks.ensures;
+      known = subst (λ s. IsKnown d routes g.dispatch tick s c.in_ok-looks.looks.items) c.as_slice-9.ensures.value c.in_ok-looks.ensures;
       recorded = c.in_ok-histories.ensures;
-      visited = c.has_looked_visit_at-visited.ensures ∙ ap₂ (has_looked_visit_at tick) c.as_slice-6.ensures.value c.as_slice-7.ensures.value
+      visited = c.has_looked_visit_at-visited.ensures ∙ ap₂ (has_looked_visit_at tick) c.as_slice-7.ensures.value c.as_slice-8.ensures.value
           ∙ only_looked d routes g.dispatch old.tick tick c.in_ok-states.states.items old.looks.items old.histories.items new found.after progress.known.count progress.recorded c.in_ok-histories.ensures told;
     }
 

@@ -6,18 +6,18 @@ use Rattle.plan_encoding.specs.Sinks.{emitted}
 use Rattle.plan_encoding.specs.Encoders.{numbered_clauses}
 use Rattle.std.specs.Prelude.{find, reverse}
 use Rattle.rail_base.specs.Routes.{route_at}
-use Rattle.plan_encoding.specs.Releases.{AreReleases, offset_of}
+use Rattle.plan_encoding.specs.Releases.{AreReleases, left_of}
 use Rattle.number_sets.specs.Sets.{contains}
-use Rattle.plan_encoding.proofs.Released.{last_tells}
+use Rattle.plan_encoding.proofs.Released.{last_clears}
 use Rattle.plan_encoding.proofs.Chained.{no_waits_for, no_waits_of_none}
 use Rattle.plan_encoding.proofs.tables.Tables.emit_waits_for.Goals as goal
 
 pub invariant_of-releasing : goal.invariant_of-releasing
 invariant_of-releasing c = record {
   first_known = c.requires.first;
-  released = λ set q is.
-      ap (λ ps. offset_of (find (λ p. contains set p.0.0) (reverse ps))) c.deref.ensures.value
-      ∙ last_tells (route_at c.args.self.now.encoder.interlocking.now.routes c.args.first.route) q c.in_ok-parts.parts.items set (subst (λ r. AreReleases c.in_ok-parts.parts.items r) c.route_at-route.ensures c.in_ok-parts.ensures) is;
+  released = λ set q l is.
+      ap (λ ps. left_of (find (λ p. contains set p.0.0) (reverse ps)) l) c.deref.ensures.value
+      ∙ last_clears (route_at c.args.self.now.encoder.interlocking.now.routes c.args.first.route) q c.in_ok-parts.parts.items set (subst (λ r. AreReleases c.in_ok-parts.parts.items r) c.route_at-route.ensures c.in_ok-parts.ensures) l is;
 }
 
 pub returns-then-is_empty-clause-ok : goal.returns-then-is_empty-clause-ok

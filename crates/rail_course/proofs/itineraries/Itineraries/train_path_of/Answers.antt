@@ -2,12 +2,18 @@ use Rattle.std.proofs.Common.{◌≡◌, length, ap, ◌∙◌, arith}
 use Rattle.rail_base.specs.declared.station.Train.{Train}
 use Rattle.rail_base.specs.Stations.{train_of}
 use Rattle.rail_base.proofs.Admitting.{admitted}
-use Rattle.rail_course.proofs.Granting.{few_edges}
+use Rattle.rail_course.proofs.Granting.{few_edges, few_held}
 use Rattle.rail_course.proofs.itineraries.Itineraries.train_path_of.Goals as goal
 
 pub prefixes_of-requires-clause-spans : goal.prefixes_of-requires-clause-spans
 prefixes_of-requires-clause-spans c =
     let few = few_edges c.args.self.now.interlocking.now c.path-path.result.now in
+    let short = c.path-path.ensures.range.below_2_47 in
+    omega arith
+
+pub prefixes_of-requires-clause-holds : goal.prefixes_of-requires-clause-holds
+prefixes_of-requires-clause-holds c =
+    let few = few_held c.args.self.now.interlocking.now c.path-path.result.now c.path-path.ensures.range.named in
     let short = c.path-path.ensures.range.below_2_47 in
     omega arith
 
