@@ -1,0 +1,42 @@
+-- The clauses of the sorted base with the variables of commands that aren't live taken for false.
+use Rattle.std.specs.Prelude.{ℕ, Bool, not, ◌&&◌, List, ◌++◌, map, filter, flat_map}
+use Rattle.std.specs.List.{list_any}
+use Rattle.rail_base.specs.declared.station.Station.{Station}
+use Rattle.rail_base.specs.declared.route.Route.{Route}
+use Rattle.rail_base.specs.declared.plan.Command.{Command}
+use Rattle.rail_alike.specs.Tests.{neighbors}
+use Rattle.sat_clause.specs.declared.lit.Lit.{Lit}
+use Rattle.clause_spec.specs.Clauses.{Clause, clauses}
+use Rattle.alike_clause_spec.specs.Turns.{in_turn}
+use Rattle.live_clause_spec.specs.Live.{is_live}
+use Rattle.live_clause_spec.specs.Variables.{is_dead, live_numbered}
+
+module _ (live : Command → Bool) where
+  -- the negation of a dead variable stands in the clause, which is true by it
+  abbrev pub denies_dead : Clause → Bool
+  denies_dead cl = list_any (λ l. l.negated && is_dead live l.variable) cl
+
+  -- the clause without literals of dead variables
+  abbrev pub without_dead : Clause → Clause
+  without_dead cl = filter (λ l. not (is_dead live l.variable)) cl
+
+  -- what is left of clauses where dead variables are false
+  abbrev pub with_dead_false : List Clause → List Clause
+  with_dead_false cls = map without_dead (filter (λ cl. not (denies_dead cl)) cls)
+
+-- the clauses of the sorted base
+abbrev pub sorted_clauses : Station → List Route → ℕ → List Clause
+sorted_clauses d routes n = clauses d routes n ++ flat_map (in_turn d routes n) (neighbors d)
+
+module _ (live : Command → Bool) (d : Station) (routes : List Route) (n : ℕ) where
+  -- what is left of them
+  abbrev pub clauses_left : List Clause
+  clauses_left = with_dead_false live (sorted_clauses d routes n)
+
+  -- over numbers
+  abbrev pub base_left : List (List Lit)
+  base_left = map (map (live_numbered live d routes n)) clauses_left
+
+-- the base of the live commands of a design
+abbrev pub live_base : Station → List Route → ℕ → List (List Lit)
+live_base d routes n = base_left (is_live d routes) d routes n
