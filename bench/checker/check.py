@@ -29,10 +29,19 @@ class Route:
             self.length += length
             self.stretches.append((self.length, limit))
             self.release[section] = self.length
+        sections, hold = design.overlaps.get(finish[1], ([], 0)) if self.to_signal else ([], 0)
+        self.held = {section: hold for section in sections if section not in self.release}
+        self.sections = [*self.release, *self.held]  # own ones, and then those of the overlap at its end
         self.nodes = []  # behind the start, with offsets
 
+    def has(self, section):
+        return section in self.release or section in self.held
+
     def shares(self, other):
-        return any(z in other.release for z in self.release)
+        return any(other.has(z) for z in self.sections)
+
+    def shares_own(self, other):
+        return any(other.has(z) for z in self.release)
 
     first = property(lambda self: self.start[0] == "boundary")
     exits = property(lambda self: self.finish[0] == "exit")
@@ -42,8 +51,9 @@ class Route:
     def follows(self, other):
         return self.start[0] == "signal" and other.finish == self.start
 
-    def clearing(self, other):
-        return max((self.release[z] for z in self.release if z in other.release), default=0)
+    def clearing(self, other, length):
+        """Where a train of a length has left all own sections that the other has; 0 where there is none."""
+        return max((self.release[z] + length for z in self.release if other.has(z)), default=0)
 
 
 class Train:
@@ -68,6 +78,10 @@ class Design:
             self.at.setdefault(one, []).append(i)
             self.at.setdefault(other, []).append(i)
         self.signals = {(number[s["node"]], s["toward"]): i for i, s in enumerate(file.get("signal", []))}
+        place = {s["name"]: i for i, s in enumerate(file.get("signal", []))}
+        # by signal the sections of its overlap, and for how many ticks they are held
+        self.overlaps = {place[o["signal"]]: (o["sections"], (o["hold_ms"] + tick - 1) // tick)
+                         for o in file.get("overlap", [])}
         vehicles = {v["name"]: v for v in file.get("vehicle", [])}
         self.trains, by_name = [], {}
         for t in file["train"]:
@@ -212,7 +226,7 @@ class Base:
                            + (-given(c, i),) + ((given(c, i - 1),) if i > 1 else ()))
         for d, c in self.pairs:
             t = d[0]
-            clear = design.route(d[1]).clearing(design.route(c[1])) + design.train(t).length
+            clear = design.route(d[1]).clearing(design.route(c[1]), design.train(t).length)
             for chain, onward in self.chains([d[1]], clear):
                 for i in range(1, n):
                     yield (tuple(-given((t, w), i) for w in chain) + (-given(c, i + 1), given(c, i))
@@ -511,13 +525,19 @@ class Run:
         t, r = d
         if t not in self.by or r not in self.path[t]:
             return False
-        place = self.path[t].index(r)
+        place, route = self.path[t].index(r), self.design.route(r)
+        if section in route.held:  # of the overlap: held on when the head has come to the route's end
+            tick = min(tick, self.by[t]["horizon"]) - route.held[section]
+            end = self.offsets[t][place] + route.length
+        else:
+            end = self.offsets[t][place] + route.release[section] + self.design.train(t).length
+        if tick < 0:
+            return False
         granted, x = self.state(t, tick)[:2]
-        offset = self.offsets[t][place] + self.design.route(r).release[section]
-        return place < granted and offset + self.design.train(t).length <= x
+        return place < granted and end <= x
 
     def shared(self, d, c):
-        return [z for z in self.design.route(d[1]).release if z in self.design.route(c[1]).release]
+        return [z for z in self.design.route(d[1]).sections if self.design.route(c[1]).has(z)]
 
     def moved(self, t, tick):
         granted, x, v, stood = self.states[t][-1]
@@ -726,7 +746,7 @@ class Ticks:
 
     def clear(self, j, w, q):
         length = self.design.train(self.legs[j][0]).length
-        return self.before_last(w) + self.design.route(w[-1]).clearing(self.design.route(q)) + length
+        return self.before_last(w) + self.design.route(w[-1]).clearing(self.design.route(q), length)
 
     def at(self, visit, r):
         t, k = visit
@@ -872,7 +892,8 @@ def bound_names_design(design, requirement, origin, trains, pairs, legs):
         if many > 4096:
             return False
     for (t, places), (u, others) in zip(legs, legs[1:]):
-        if any(not design.contend((t, r), (u, q)) for r in places[-1][1] for q in others[0][1]):
+        if any(not design.contend((t, r), (u, q)) or not design.route(r).shares_own(design.route(q))
+               for r in places[-1][1] for q in others[0][1]):
             return False
     begin, to, last = visits_between(design, requirement)
     if legs[-1][0] != last:

@@ -155,7 +155,9 @@ def bound_line(chance, design):
         u = chance.randrange(1, design.T + 1)
         before = path_of(chance, design, u)
         after = [(legs[0][0], q) for q in legs[0][1][0][1]]
-        ends = [i for i, r in enumerate(before) if all(design.contend((u, r), c) for c in after)]
+        waits = lambda r, c: design.contend((u, r), c) and (
+            design.route(r).shares_own(design.route(c[1])) or chance.random() < 0.1)
+        ends = [i for i, r in enumerate(before) if all(waits(r, c) for c in after)]
         if ends:
             end = chance.choice(ends)
             first = chance.choice((0, chance.randrange(end + 1)))

@@ -59,13 +59,33 @@ def standing(found):
     return found[0] + b", dwell_ms=" + str(times).encode()
 
 
+def overlapping(design):
+    """Overlaps at most signals of a design, the same for the same design: mostly of the sections behind the signal."""
+    file, chance = tomllib.loads(design.decode()), random.Random(design)
+    ends = {}
+    for edge in file.get("edge", []):
+        for end, far in (("from", "to"), ("to", "from")):
+            ends.setdefault((edge[end], edge[end + "_side"]), []).append((edge["section"], edge[far], edge[far + "_side"]))
+    for signal in file.get("signal", []):
+        behind = ends.get((signal["node"], signal["toward"]), [])
+        further = [end for section, node, side in behind for end in ends.get((node, "ab".replace(side, "")), [])]
+        near = [section for section, node, side in behind]
+        sections = near if chance.random() < 0.4 else near + [section for section, node, side in further]
+        sections += [chance.choice(file["edge"])["section"]] if chance.random() < 0.2 else []
+        if sections and chance.random() < 0.7:
+            ms = chance.choice((0, 1, 999, 2500, 20_000, 60_000))
+            yield f"\n[[overlap]]\nsignal = \"{signal['name']}\"\nsections = {sections[:16]}\nhold_ms = {ms}\n".encode()
+
+
 def of_version(design, version):
-    """The same design in this version, where it is one of version 1; its trains stand at visits from version 3 on."""
+    """The same design in this version, where it is one of version 1; from version 3 on its trains stand at visits, and in
+    version 4 signals have overlaps."""
     if b"version = 1" not in design:
         return design
+    overlaps = b"".join(overlapping(design)) if version > 3 else b""
     if version > 2:
         design = re.sub(rb"visits\s*=\s*\[(?:\s*\[[^\]]*\]\s*,?)*\s*\]", standing, design)
-    return design.replace(b"version = 1", b"version = %d" % version)
+    return design.replace(b"version = 1", b"version = %d" % version) + overlaps
 
 
 def stored(program, folder, version):
@@ -213,7 +233,7 @@ def main():
     parser.add_argument("--count", type=int, default=1000)
     parser.add_argument("--first", type=int, default=0, help="the number of the first case")
     parser.add_argument("--made", action="store_true", help="makes lines, in place of changes of stored files")
-    parser.add_argument("--version", type=int, default=1, help="the version of the designs, 1 to 3")
+    parser.add_argument("--version", type=int, default=1, help="the version of the designs, 1 to 4")
     parser.add_argument("--keep", type=pathlib.Path)
     asked = parser.parse_args()
     answers, designs, differ, own, others = collections.Counter(), {}, 0, 0.0, 0.0

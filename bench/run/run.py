@@ -23,6 +23,7 @@ class Design:
 
     version = 1
     stop_ms = None
+    hold_ms = None
 
     def __init__(self, vehicle, ticks=DAY):
         self.entries = {"node": [], "edge": [], "signal": [], "train": [], "order": [], "within": []}
@@ -53,6 +54,17 @@ class Design:
             assert section
         return nodes
 
+    def overlaps(self):
+        """An overlap at each signal with an edge behind it: the sections of the edges there."""
+        behind = {}
+        for edge in self.entries["edge"]:
+            for end in "from", "to":
+                behind.setdefault((edge[end], edge[f"{end}_side"]), {})[edge["section"]] = True
+        for signal in self.entries["signal"]:
+            sections = list(behind.get((signal["node"], signal["toward"]), {}))
+            if sections:
+                yield {"signal": signal["name"], "sections": sections, "hold_ms": self.hold_ms}
+
     def text(self):
         """The design as TOML."""
         def value(told):
@@ -62,7 +74,8 @@ class Design:
 
         parts = [f"version = {self.version}", "tick_ms = 1000", f"horizon_ms = {1000 * self.ticks}"]
         parts += [f"vehicle = [{{{', '.join(f'{key}={value(told)}' for key, told in self.vehicle.items())}}}]"]
-        for kind, entries in self.entries.items():
+        overlaps = {} if self.hold_ms is None else {"overlap": list(self.overlaps())}
+        for kind, entries in (self.entries | overlaps).items():
             rows = ", ".join("{" + ", ".join(f"{key}={value(told)}" for key, told in entry.items()) + "}" for entry in entries)
             parts.append(f"{kind} = [{rows}]")
         return "\n".join(parts) + "\n"
@@ -79,14 +92,19 @@ def vehicle(speed, length=100_000):
     return {"name": "v", "length_mm": length, "accel_mm_s2": 500, "brake_mm_s2": 700, "speed_mm_s": speed}
 
 
+def steps_apart():
+    """How many steps a train has to be behind another: one more where its overlap is in the way."""
+    return 2 if Design.hold_ms is None else 3
+
+
 def following(lines, routes, length, speed, uneven=False):
-    """On each line two trains, the second two steps behind the first: the design, and of each train its line and its first step."""
+    """On each line two trains, the second some steps behind the first: the design, and of each train its line and its first step."""
     design = Design(vehicle(speed, min(length, 100_000)))
     starts = []
     for _ in range(lines):
         first_signal = len(design.entries["signal"])
         nodes = design.line(routes, length, speed, 1, uneven)
-        for behind in (0, 2):
+        for behind in (0, steps_apart()):
             design.add("train", vehicle="v", visits=[[nodes[0]], [nodes[-1]]])
             starts.append((nodes[0], first_signal, routes, behind))
     return design, starts
@@ -94,12 +112,12 @@ def following(lines, routes, length, speed, uneven=False):
 
 def crossing(lines, routes, length, speed):
     """Lines with a train each, all of which begin at once. Each line crosses those before it: a train comes to a section of another
-    two steps behind it."""
+    some steps behind it."""
     design = Design(vehicle(speed, min(length, 100_000)))
     starts = []
     for line in range(lines):
         first_signal = len(design.entries["signal"])
-        nodes = design.line(routes, length, speed, 1, section_of=lambda number, line=line: 2 * line + number)
+        nodes = design.line(routes, length, speed, 1, section_of=lambda number, line=line: steps_apart() * line + number)
         design.add("train", vehicle="v", visits=[[nodes[0]], [nodes[-1]]])
         starts.append((nodes[0], first_signal, routes, 0))
     return design, starts
@@ -125,13 +143,13 @@ def in_turn(trains, edges, length, speed):
 
 def in_rows(lines, trains, steps, length, speed, behind):
     """Lines of as many routes as a plan may have steps. The trains of a line follow each other, each so many steps behind the one
-    before. A train is given its routes up to the last step, and has to come to the end of the first."""
+    before, as many as have a first step. A train is given its routes up to the last step, and has to come to the end of the first."""
     design = Design(vehicle(speed, length // 2))
     starts = []
     for line in range(lines):
         first_signal = len(design.entries["signal"])
         nodes = design.line(steps, length, speed, 1)
-        for number in range(trains // lines):
+        for number in range(min(trains // lines, (steps - 1) // behind + 1 if behind else trains)):
             design.add("train", vehicle="v", visits=[[nodes[0]], [nodes[1]]])
             starts.append((nodes[0], first_signal, steps - behind * number, behind * number))
     return design, starts
@@ -260,8 +278,8 @@ def commands(program, folder):
     yield "the same with brakes of 1 mm/s2", 2, "fails", looped(program, folder, 1, 44, 1_850, 20_000, 20_000)
     yield "the same, each edge 1 mm/s slower than the one before", 2, "fails", looped(program, folder, 1, 44, 1_850, 20_000, 20_000, 1)
     yield "the same, each edge 5 mm/s slower than the one before", 2, "fails", looped(program, folder, 1, 44, 1_850, 20_000, 20_000, 5)
-    yield "128 trains in a row over up to 256 routes each", 2, "met", simulated(program, folder, in_rows(1, 128, 256, 10_000, 20_000, 2))
-    yield "126 trains in three rows over up to 256 routes each", 2, "met", simulated(program, folder, in_rows(3, 126, 256, 10_000, 20_000, 2))
+    yield "128 trains in a row over up to 256 routes each", 2, "met", simulated(program, folder, in_rows(1, 128, 256, 10_000, 20_000, steps_apart()))
+    yield "126 trains in three rows over up to 256 routes each", 2, "met", simulated(program, folder, in_rows(3, 126, 256, 10_000, 20_000, steps_apart()))
     refused = "plan refused P4 step 1 train train0 section section0"
     yield "128 trains over 256 routes each, all at once", 2, refused, simulated(program, folder, in_rows(1, 128, 256, 10_000, 20_000, 0))
     yield "100,000 cones of a train that is followed for a day", 10, "no line 100002", checked(program, folder, 100_000, "r visit 1 2 t 1 86400 1 1 0 0 0")
@@ -273,11 +291,13 @@ def main():
     words.add_argument("--runs-program", default=str(RUNS / "out" / "day_runs"), help="the program that runs one plan many times")
     words.add_argument("--limit", type=float, default=120, help="how many seconds a case may take, after which it is killed")
     words.add_argument("--only", default="", help="cases whose names have these words")
-    words.add_argument("--version", type=int, default=1, help="the version of the designs, 1, 2 or 3")
+    words.add_argument("--version", type=int, default=1, help="the version of the designs, 1 to 4")
     words.add_argument("--stops", type=int, help="the ms that each train stands at each visit but the first, in version 3; no answer is asked for")
+    words.add_argument("--overlaps", type=int, help="the ms for which an overlap at each signal is held, in version 4; no answer is asked for")
     given = words.parse_args()
-    Design.version = given.version if given.stops is None else 3
-    Design.stop_ms = given.stops
+    Design.version = 4 if given.overlaps is not None else 3 if given.stops is not None else given.version
+    Design.stop_ms, Design.hold_ms = given.stops, given.overlaps
+    any_answer = given.stops is not None or given.overlaps is not None
     missed = 0
     with tempfile.TemporaryDirectory() as made:
         for name, bar, begins, told in cases(given.program, given.runs_program, pathlib.Path(made)):
@@ -290,7 +310,7 @@ def main():
             except subprocess.TimeoutExpired:
                 answer = "killed"
             seconds = time.monotonic() - begin
-            bad = seconds > bar or not (answer.startswith(begins) or (given.stops is not None and answer.startswith(("met", "fails"))))
+            bad = seconds > bar or not (answer.startswith(begins) or (any_answer and answer.startswith(("met", "fails"))))
             missed += bad
             print(f"{name:56} {bar:>4} {seconds:>8.2f} s  {answer[:60]}{'  MISSED' if bad else ''}", flush=True)
     print(f"{missed} missed")

@@ -11,7 +11,8 @@ takes longer than its seconds, or derives more than three times the lines, or a 
 With `--dwell` the stations are those of `bench/stations/dwell`, whose trains stand at their platforms, looked for with
 `--bounds`. A line then says how many plans failed, and behind the seconds and that number those of another program, from
 `figures_dwell`, which has `<station> <steps> <answer> <seconds> <failed>`. Of a plan, what is printed of its run has to be
-what bench/checker/simulate.py says of it.
+what bench/checker/simulate.py says of it. With `--overlap` they are those of `bench/stations/overlap`, whose signals have
+overlaps, with `figures_overlap`; where this has `late -` for the other program, a search that is late here is no fault.
 """
 
 import argparse
@@ -26,7 +27,6 @@ import time
 TOP = pathlib.Path(__file__).resolve().parent.parent.parent
 STATIONS = TOP / "bench" / "stations"
 FIGURES = pathlib.Path(__file__).resolve().parent / "figures"
-DWELL_FIGURES = FIGURES.with_name("figures_dwell")
 sys.path += [str(TOP / "bench" / "solver"), str(TOP / "bench" / "checker")]
 
 import simulate  # noqa: E402
@@ -41,9 +41,9 @@ def asked():
         yield station, int(steps), answer, None if lines == "-" else int(lines)
 
 
-def asked_to_stand():
-    """The stations whose trains stand, each with its steps, its answer, and the seconds and failed plans of another program."""
-    for line in DWELL_FIGURES.read_text().splitlines():
+def asked_in(folder):
+    """The stations of a folder, each with its steps, its answer, and the seconds and failed plans of another program."""
+    for line in FIGURES.with_name(f"figures_{folder}").read_text().splitlines():
         station, steps, answer, seconds, failed = line.split()
         yield station, int(steps), answer.replace("_", " "), seconds, failed
 
@@ -185,20 +185,21 @@ def told_alike(station, printed, folder):
     return timetable == simulate.text_of(STATIONS / f"{station}.toml", path)
 
 
-def run_dwell(given):
-    """Searches for plans of the stations whose trains stand, and says how many missed."""
-    missed, seconds, failures = 0, [0.0, 0.0], [0, 0]
+def run_beside(given, stations):
+    """Searches for plans of the stations of a folder, beside those of another program, and says how many missed."""
+    missed, seconds, failures, late = 0, [0.0, 0.0], [0, 0], 0
     with tempfile.TemporaryDirectory() as folder:
-        for station, steps, answer, theirs, theirs_failed in asked_to_stand():
+        for station, steps, answer, theirs, theirs_failed in asked_in(stations):
             if given.stations and station not in given.stations:
                 continue
-            place = f"dwell/{station}"
+            place = f"{stations}/{station}"
             flags = ["--bounds", "--progress"]
             first, passed, proof, printed, told = verify(given.program, place, steps, flags, given.seconds, folder)
             failed, faults, checked = failed_plans(proof, told), [], ""
-            if first != answer:
+            both_late = theirs == first == "late"
+            if first != answer and not both_late:
                 faults.append("other answer")
-            if passed > given.bar:
+            if passed > given.bar and theirs != "late":
                 faults.append("late")
             if proof:
                 passes, took = check(given.program, place, steps, folder)
@@ -208,11 +209,16 @@ def run_dwell(given):
             elif first.startswith("plan steps") and not told_alike(place, printed, folder):
                 faults.append("another run")
             missed += bool(faults)
-            seconds[0], failures[0] = seconds[0] + passed, failures[0] + failed
-            seconds[1], failures[1] = seconds[1] + float(theirs), failures[1] + int(theirs_failed)
-            beside = f"{passed:7.2f} s ({failed}){checked}; another program {theirs} s ({theirs_failed})"
+            if theirs == "late":
+                late += 1
+                beside = f"{passed:7.2f} s ({failed}){checked}; another program late"
+            else:
+                seconds[0], failures[0] = seconds[0] + passed, failures[0] + failed
+                seconds[1], failures[1] = seconds[1] + float(theirs), failures[1] + int(theirs_failed)
+                beside = f"{passed:7.2f} s ({failed}){checked}; another program {theirs} s ({theirs_failed})"
             print(f"{station:22} {steps:3} {first:22} {beside}{'  MISSED: ' + ', '.join(faults) if faults else ''}", flush=True)
-    print(f"in all {seconds[0]:.1f} s ({failures[0]}); another program {seconds[1]:.1f} s ({failures[1]})")
+    out = f", without the {late} for which that is late" if late else ""
+    print(f"in all {seconds[0]:.1f} s ({failures[0]}); another program {seconds[1]:.1f} s ({failures[1]}){out}")
     print(f"{missed} missed")
     return missed
 
@@ -224,23 +230,24 @@ def main():
     words.add_argument("--any", action="store_true", help="take a plan of any number of steps; only beside --bounds")
     words.add_argument("--normal", action="store_true", help="look only at plans in which no command could be given earlier; without --bounds")
     words.add_argument("--dwell", action="store_true", help="the stations whose trains stand at their platforms, by bounds")
+    words.add_argument("--overlap", action="store_true", help="the stations whose signals have overlaps, by bounds")
     words.add_argument("--seconds", type=float, help="how long a search may take before it is stopped: 20, or 120 with --dwell")
-    words.add_argument("--bar", type=float, help="how long a search should take at most: 10, or 120 with --dwell")
+    words.add_argument("--bar", type=float, help="how long a search should take at most: 10, 20 with --overlap or 120 with --dwell")
     words.add_argument("stations", nargs="*", help="the stations, all of them if none is named")
     given = words.parse_args()
     given.seconds = given.seconds or (120 if given.dwell else 20)
-    given.bar = given.bar or (120 if given.dwell else 10)
+    given.bar = given.bar or (120 if given.dwell else 20 if given.overlap else 10)
     if given.any and not given.bounds:
         words.error("--any stands beside --bounds alone")
     if given.normal and given.bounds:
         words.error("--normal does not stand beside --bounds")
-    if given.dwell and (given.any or given.normal):
-        words.error("--dwell stands neither beside --any nor beside --normal")
+    if (given.dwell or given.overlap) and (given.any or given.normal or given.dwell and given.overlap):
+        words.error("--dwell and --overlap stand neither beside each other nor beside --any or --normal")
     flags = ["--bounds"] * given.bounds + ["--any"] * given.any + ["--normal"] * given.normal
     if not os.access(given.program, os.X_OK):
         subprocess.run([TOP / "rcv", "routes", TOP / "stations" / "halt.toml"], stdout=subprocess.DEVNULL, check=True)
-    if given.dwell:
-        sys.exit(1 if run_dwell(given) else 0)
+    if given.dwell or given.overlap:
+        sys.exit(1 if run_beside(given, "dwell" if given.dwell else "overlap") else 0)
     missed = 0
     with tempfile.TemporaryDirectory() as folder:
         for station, steps, answer, most in asked():
