@@ -16,6 +16,7 @@ use Rattle.rail_spec.specs.Feasible.{IsRunnable, IsFeasible}
 use Rattle.rail_spec.specs.Histories.{decided}
 use Rattle.rail_spec.specs.Requirements.{meets, cost, path_violation, violation_at}
 use Rattle.rail_spec.specs.Verdict.{failure, or_else}
+use Rattle.rail_laws.proofs.KeptFree.{stay_free}
 use Rattle.rail_laws.proofs.Admits.{never_clash}
 use Rattle.rail_laws.proofs.Keeping.{keeps_authority, keeps_all_limits}
 use Rattle.rail_laws.proofs.Lively.{no_deadlock}
@@ -77,6 +78,7 @@ runs_safely d n plan good able =
     let formed = able.well_formed.formed in
     record {
       apart = never_clash d good n plan formed able.executable;
+      free = stay_free d good n plan formed;
       keeps = record { in_authority = keeps_authority d good n plan formed; in_limits = keeps_all_limits d good n plan formed };
       granted = no_deadlock d good n plan able;
     }

@@ -5,6 +5,7 @@ use Rattle.rail_base.specs.declared.plan.Command.{Command}
 use Rattle.rail_spec.specs.Track.{routes_of}
 use Rattle.rail_spec.specs.Feasible.{IsFeasible}
 use Rattle.rail_spec.specs.Requirements.{cost}
+use Rattle.rail_laws.specs.Overlaps.{OverlapsStayFree}
 use Rattle.rail_laws.specs.Progress.{IsGrantedInTime}
 use Rattle.rail_spec.specs.Safety.{Clash, KeepsToTrack}
 use Rattle.rail_outside.specs.Growth.{grown}
@@ -14,9 +15,11 @@ use Rattle.cli_shell.specs.declared.status.Status.{Status}
 use Rattle.cli_shell.specs.declared.status.Status.TheVariants as statuses
 use Rattle.cli_shell.specs.Shows.{verdict_at_horizon}
 
--- in the run of the plan, past the horizon too, no two trains ever hold one section or stand on one; each train keeps to its end of authority and its limits; and each command is granted in time
+-- in the run of the plan, past the horizon too, no section is ever held or stood on by two trains; overlaps are kept free;
+-- each train keeps to its end of authority and its limits; and each command is granted in time
 pub record RunsSafely (d : Station) (plan : List (List Command)) : Type 0 where
   pub apart : (k : ℕ) → Clash d (routes_of d) plan k → ⊥
+  pub free : OverlapsStayFree d (routes_of d) plan
   pub keeps : KeepsToTrack d (routes_of d) plan
   pub granted : IsGrantedInTime d (routes_of d) plan
 

@@ -2,3 +2,4 @@ pub mod Marking
 mod Gathering
 mod Pairing
 mod Moving
+pub mod Kept

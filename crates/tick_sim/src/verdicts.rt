@@ -7,6 +7,7 @@ ghost use Rattle.rail_spec.specs.Safety.{KeepsToTrack};
 ghost use Rattle.tick_sim.specs.Running.{path_violation_in, states_in, verdict_in};
 ghost use Rattle.interlocking.specs.Plans.{on};
 ghost use Rattle.rail_course.specs.Standing.{StandsAtVisits};
+ghost use Rattle.rail_laws.specs.Overlaps.{OverlapsStayFree};
 ghost use Rattle.rail_laws.specs.Plans.{StaysApart, GrantsInTime};
 
 use crate::histories::{first_histories, next_histories};
@@ -25,8 +26,8 @@ use std::alloc::{AllocError, Global};
 /// history ends with the deciding tick.
 ///
 /// At whatever tick each train is within its authority and its limits, and it stands its ticks exactly where it makes
-/// its visits. Where the plan is executable too, no two trains ever hold one section or stand on one, and each command
-/// is granted in a bounded time.
+/// its visits. Where the plan is executable too, no two trains ever hold one section or stand on one, the sections of an
+/// overlap are free of other trains for as long as they are held, and each command is granted in a bounded time.
 pub fn simulate(
     alloc: Global,
     interlocking: &Interlocking,
@@ -39,6 +40,7 @@ pub fn simulate(
     ensures stands { on interlocking.now StandsAtVisits plan.now.steps }
     ensures granted { on interlocking.now GrantsInTime plan.now.steps }
     ensures apart { on interlocking.now StaysApart plan.now.steps }
+    ensures free { on interlocking.now OverlapsStayFree plan.now.steps }
 {
     run_plan(alloc, interlocking, plan, ticks)
 }

@@ -1,4 +1,5 @@
 use Rattle.rail_course.proofs.Lawful.{apart, keeps, stands, granted}
+use Rattle.plan_run.proofs.Kept.{free}
 use Rattle.plan_run.proofs.verdicts.simulate.Goals as goal
 
 pub returns-clause-keeps : goal.returns-clause-keeps
@@ -12,3 +13,6 @@ returns-clause-granted c = granted c.args.interlocking.now.design.station c.args
 
 pub returns-clause-apart : goal.returns-clause-apart
 returns-clause-apart c = apart c.args.interlocking.now.design.station c.args.interlocking.now.design.admitted c.args.interlocking.now.routes c.args.interlocking.now.table c.args.plan.now.steps c.requires.formed
+
+pub returns-clause-free : goal.returns-clause-free
+returns-clause-free c = free c.args.interlocking.now.design.station c.args.interlocking.now.design.admitted c.args.interlocking.now.routes c.args.interlocking.now.table c.args.plan.now.steps c.requires.formed
