@@ -1,0 +1,5 @@
+-- Sets of commands.
+pub mod Blocks
+pub mod Commands
+pub mod Rows
+pub mod Laws
