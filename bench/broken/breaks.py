@@ -218,7 +218,7 @@ SLIGHT = (near_number, near_number, near_number, other_number, pattern_broken(ST
 # Proofs.
 
 HEADS = (
-    b"rcvlog 1", b"rcvlog 4 1 2", b"rcvlog 4 1 3", b"rcvlog 4 1 4", b"rcvlog 2 1 2", b"rcvlog 4 2 2", b"rcvlog 4 1 0", b"rcvlog 1\r", b"",
+    b"rcvlog 1", b"rcvlog 5 1 2", b"rcvlog 5 1 3", b"rcvlog 4 1 2", b"rcvlog 4 1 3", b"rcvlog 4 1 4", b"rcvlog 2 1 2", b"rcvlog 4 2 2", b"rcvlog 4 1 0", b"rcvlog 1\r", b"",
     b"rcvlog 4 1 18446744073709551616", b"rcvlog", b"RCVLOG 1", b"rcvlog 2 1 3", b"rcvlog 2 1 4", b"rcvlog 2 2 2", b"rcvlog 3 1 2",
 )  # fmt: skip
 

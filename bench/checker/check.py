@@ -170,30 +170,85 @@ class Design:
 # ---- variables and clauses
 
 
-class Base:
-    """The variables and the clauses of a design for plans of at most n steps."""
+class Dead(Exception):
+    """What is denied is of a command of which the base doesn't speak."""
 
-    def __init__(self, design, n):
+
+def live_commands(design):
+    """The commands whose route stands on a way of their train."""
+    found = set()
+    for t in range(1, design.T + 1):
+        visits = design.train(t).visits
+
+        def made(r, j):
+            for node, offset in design.route(r).nodes:
+                if j < len(visits) and node in visits[j]:
+                    j += 1
+            return j
+
+        front = [(r, 1) for r in design.begins(t)]
+        reached, behind = set(front), {}
+        while front:
+            r, j = front.pop()
+            for q in range(1, design.R + 1):
+                if design.route(q).follows(design.route(r)):
+                    after = (q, made(r, j))
+                    behind.setdefault(after, []).append((r, j))
+                    if after not in reached:
+                        reached.add(after)
+                        front.append(after)
+        front = [(r, j) for r, j in reached if made(r, j) == len(visits)]
+        ends = set(front)
+        while front:
+            for before in behind.get(front.pop(), []):
+                if before not in ends:
+                    ends.add(before)
+                    front.append(before)
+        found |= {(t, r) for r, j in ends}
+    return found
+
+
+class Base:
+    """The variables and the clauses of a design for plans of at most n steps: of all commands, or of these alone."""
+
+    def __init__(self, design, n, live=None):
         self.design, self.n = design, n
         T, R = design.T, design.R
-        self.commands = [(t, r) for t in range(1, T + 1) for r in range(1, R + 1)]
+        every = [(t, r) for t in range(1, T + 1) for r in range(1, R + 1)]
+        self.commands = [c for c in every if live is None or c in live]
+        self.place = {c: place for place, c in enumerate(self.commands)}
         shared = {r: [q for q in range(1, R + 1) if design.route(r).shares(design.route(q))] for r in range(1, R + 1)}
         self.pairs, self.before = {}, {}
         for d in self.commands:
             for t in range(1, T + 1):
                 if t != d[0]:
                     for r in shared[d[1]]:
-                        self.pairs[d, (t, r)] = T * R * n + len(self.pairs) + 1
-                        self.before.setdefault((t, r), []).append(d)
-        self.last = T * R * n + len(self.pairs) + n
+                        if (t, r) in self.place:
+                            self.pairs[d, (t, r)] = len(self.commands) * n + len(self.pairs) + 1
+                            self.before.setdefault((t, r), []).append(d)
+        self.last = len(self.commands) * n + len(self.pairs) + n
         self.clauses = list(self.made())
         self.turns = self.normal = None
 
     def given(self, c, i):
-        return ((c[0] - 1) * self.design.R + (c[1] - 1)) * self.n + i
+        return self.place[c] * self.n + i
 
     def used(self, c):
         return self.given(c, self.n)
+
+    def some_given(self, t, routes, i):
+        """That a train is given one of these routes by step i, of those of which the base speaks; by step 0 none is."""
+        return tuple(self.given((t, q), i) for q in routes if i > 0 and (t, q) in self.place)
+
+    def not_used(self, c):
+        if c not in self.place:
+            raise Dead
+        return -self.used(c)
+
+    def not_before(self, d, c):
+        if (d, c) not in self.pairs:
+            raise Dead
+        return -self.pairs[d, c]
 
     def by(self, k):
         return self.last - self.n + k
@@ -209,15 +264,16 @@ class Base:
             before = [q for q in numbers if route.follows(design.route(q))]
             for i in range(1, n + 1):
                 if not route.first:
-                    yield (-given(c, i),) + tuple(given((t, q), i - 1) for q in before if i > 1)
+                    yield (-given(c, i),) + self.some_given(t, before, i - 1)
                 elif not design.can_visit(t, 1, c[1]):
                     yield (-given(c, i),)
         for t in range(1, design.T + 1):
             for r in numbers:
                 for q in range(r + 1, design.R + 1):
                     one, other = design.route(r), design.route(q)
-                    if one.first and other.first or one.start == other.start \
-                            or one.to_signal and one.finish == other.finish:
+                    if (t, r) in self.place and (t, q) in self.place and (
+                            one.first and other.first or one.start == other.start
+                            or one.to_signal and one.finish == other.finish):
                         yield (-used((t, r)), -used((t, q)))
         for d, c in self.pairs:
             if d[0] < c[0]:
@@ -229,11 +285,12 @@ class Base:
             clear = design.route(d[1]).clearing(design.route(c[1]), design.train(t).length)
             for chain, onward in self.chains([d[1]], clear):
                 for i in range(1, n):
-                    yield (tuple(-given((t, w), i) for w in chain) + (-given(c, i + 1), given(c, i))
-                           + tuple(given((t, q), i) for q in onward))
+                    if all((t, w) in self.place for w in chain):
+                        yield (tuple(-given((t, w), i) for w in chain) + (-given(c, i + 1), given(c, i))
+                               + self.some_given(t, onward, i))
         for t in range(1, design.T + 1):
             for k in range(1, len(design.train(t).visits) + 1):
-                yield tuple(used((t, r)) for r in numbers if design.can_visit(t, k, r))
+                yield self.some_given(t, [r for r in numbers if design.can_visit(t, k, r)], n)
         for (d, c), p in self.pairs.items():
             yield (-p, used(c))
             for i in range(1, n + 1):
@@ -262,8 +319,8 @@ class Base:
                 if u is not None:
                     for q in design.begins(u):
                         for i in range(1, self.n + 1):
-                            self.turns.append((-self.given((u, q), i),)
-                                              + tuple(self.given((t, r), i) for r in design.begins(t)))
+                            if (u, q) in self.place:
+                                self.turns.append((-self.given((u, q), i),) + self.some_given(t, design.begins(t), i))
         return self.turns
 
     def given_in(self, c, i):
@@ -300,7 +357,7 @@ class Base:
 
     def behind(self, version):
         """The clauses behind those of the base under a head, and the number of the last variable."""
-        if version == 4:
+        if version in (4, 5):
             return self.turn_clauses(), self.last
         if version == 3:
             return self.normal_clauses(), self.last + len(self.commands) * self.n
@@ -388,7 +445,7 @@ def head_of(text):
         if version == b"1":
             words.end()
             return (1, None, None)
-        if version in (b"2", b"3", b"4"):
+        if version in (b"2", b"3", b"4", b"5"):
             head = (int(version), words.long(), words.long())
             words.end()
             return head
@@ -694,15 +751,16 @@ def violation_shown(design, run, violation, trains):
 
 
 def cone_clause(base, violation, trains, pairs):
-    design, clause, listed = base.design, set(), set(pairs)
+    """What is left of the clause of a cone. Dead where it denies something of which the base doesn't speak."""
+    design, clause, listed = base.design, {base.not_before(*pair) for pair in pairs}, set(pairs)
     for c in trains:
         t, path, free = c["train"], c["path"], c["free"]
-        clause |= {-base.used((t, r)) for r in path}
+        clause |= {base.not_used((t, r)) for r in path}
         if free >= len(path) or violation[0] == "path":
-            clause |= {base.used((t, q)) for q in design.past(path)}
+            clause |= set(base.some_given(t, design.past(path), base.n))
         for r in path[:free]:
             clause |= {base.pairs[d, (t, r)] for d in base.before.get((t, r), []) if (d, (t, r)) not in listed}
-    return clause | {-base.pairs[pair] for pair in pairs}
+    return clause
 
 
 def cone_line(base, words):
@@ -711,6 +769,10 @@ def cone_line(base, words):
     words.end()
     if not cone_in_design(base.design, violation, trains, pairs):
         raise Bad("path not in design")
+    try:
+        clause = cone_clause(base, violation, trains, pairs)
+    except Dead:
+        raise Bad("path not in design") from None
     run = Run(base.design, trains, pairs)
     if not free_granted(run, trains):
         raise Bad("command not granted")
@@ -718,7 +780,7 @@ def cone_line(base, words):
         raise Bad("holder not valid")
     if not violation_shown(base.design, run, violation, trains):
         raise Bad("violation not shown")
-    return cone_clause(base, violation, trains, pairs)
+    return clause
 
 
 # ---- bounds
@@ -972,13 +1034,16 @@ def bound_clause(base, requirement, origin, trains, pairs, legs):
     for t, places in legs:
         for named, routes, kept in places:
             if named:
-                clause.add(-base.used((t, routes[0])))
-            clause |= {base.used((t, q)) for q in kept}
+                clause.add(base.not_used((t, routes[0])))
+            clause |= set(base.some_given(t, kept, base.n))
     for (t, places), (u, others) in zip(legs, legs[1:]):
         both = places[-1][0] and others[0][0]
         for r in places[-1][1]:
             for q in others[0][1]:
-                clause.add(-base.pairs[(t, r), (u, q)] if both else base.pairs[(u, q), (t, r)])
+                if both:
+                    clause.add(base.not_before((t, r), (u, q)))
+                elif ((u, q), (t, r)) in base.pairs:
+                    clause.add(base.pairs[(u, q), (t, r)])
     if origin == "one":
         t = visits_between(design, requirement)[0][0]
         for r in design.begins(t):
@@ -994,7 +1059,10 @@ def bound_line(base, words):
     design = base.design
     if not bound_names_design(design, requirement, origin, trains, pairs, legs):
         raise Bad("bound not in design")
-    clause = bound_clause(base, requirement, origin, trains, pairs, legs)
+    try:
+        clause = bound_clause(base, requirement, origin, trains, pairs, legs)
+    except Dead:
+        raise Bad("bound not in design") from None
     if any(-literal in clause for literal in clause):
         raise Bad("bound not in design")
     if not covered(design, requirement, origin, legs):
@@ -1054,7 +1122,7 @@ class Log:
         if kind == b"r":
             self.clauses.append(cone_line(self.base, words))
         elif kind == b"b":
-            if version != 4:
+            if version not in (4, 5):
                 raise Bad("text")
             self.clauses.append(bound_line(self.base, words))
         elif kind == b"x":
@@ -1070,23 +1138,28 @@ class Log:
         return None
 
 
+def base_for(design, n, of_live):
+    if (n, of_live) not in design.bases:
+        design.bases[n, of_live] = Base(design, n, live_commands(design) if of_live else None)
+    return design.bases[n, of_live]
+
+
 def judge(design, n, data):
     """What a file shows of a design for n steps."""
-    if n not in design.bases:
-        design.bases[n] = Base(design, n)
-    base = design.bases[n]
-    many = lambda clauses: sum(len(clause) for clause in clauses)
-    if many(base.clauses) > LITERALS:
-        return "design refused D14 base"
     if len(data) > MOST_BYTES:
         return f"too long proof {MOST_BYTES}"
     lines = data.split(b"\n")
     ends = [True] * (len(lines) - 1) + [False]
     if not lines[-1]:
         lines.pop(), ends.pop()
+    head = head_of(lines[0]) if lines and ends[0] else None
+    of_live = head is not None and head[0] == 5
+    base = base_for(design, n, of_live)
+    many = lambda clauses: sum(len(clause) for clause in clauses)
+    if not of_live and many(base.clauses) > LITERALS:
+        return "design refused D14 base"
     if not lines:
         return "no line 1 no final line"
-    head = head_of(lines[0]) if ends[0] else None
     if head is None:
         return "no line 1 text"
     if head[0] != 1 and head[1:] != (design.version, n):

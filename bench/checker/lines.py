@@ -235,12 +235,13 @@ def made_file(chance, text, n):
             text = with_ticks(chance, text, design, words)
     design = check.Design(text)
     line = " ".join(map(str, words)).encode()
-    lines = [b"rcvlog 4 %d %d" % (design.version, n), line]
-    base = check.Base(design, n)
-    more, last = base.behind(4)
+    version = chance.choice((4, 5))
+    lines = [b"rcvlog %d %d %d" % (version, design.version, n), line]
+    base = check.base_for(design, n, version == 5)
+    more, last = base.behind(version)
     log = check.Log(base, base.clauses + more, last)
     try:
-        log.line(line, 4)
+        log.line(line, version)
     except check.Bad:
         return text, lines
     clause = sorted(log.clauses[-1], key=abs)

@@ -1,25 +1,30 @@
 -- Clauses over the variables of the plain base are true alike where the values agree there.
-use Rattle.std.proofs.Common.{◌≡◌, ℕ, ◌≤◌, ◌<◌, inl, inr, Bool, true, cond, not, ◌&&◌, ◌||◌, List, [], ◌∷◌, ◌++◌, map, refl, sym, ap, ◌∙◌, arith}
+use Rattle.std.proofs.Common.{◌≡◌, ℕ, ◌≤◌, ◌<◌, inl, inr, Bool, true, cond, not, ◌&&◌, ◌||◌, List, [], ◌∷◌, ◌++◌, map, refl, sym, ap, subst, ◌∙◌, arith}
 use Rattle.std.specs.List.{list_all}
 use Rattle.std.proofs.lemmas.List.Folds.{list_all-append}
 use Rattle.rail_base.specs.declared.station.Station.{Station}
 use Rattle.rail_base.specs.declared.route.Route.{Route}
 use Rattle.rail_base.specs.declared.plan.Command.{Command}
 use Rattle.rail_base.proofs.Members.{In, and_left, and_right, and_both, list_all_at}
-use Rattle.rail_base.proofs.Lists.{list_all_from}
+use Rattle.rail_base.proofs.Lists.{in_map_back, list_all_from}
 use Rattle.rail_alike.specs.Tests.{neighbors}
 use Rattle.sat_clause.specs.declared.lit.Lit.{Lit}
 use Rattle.sat_clause.specs.Clauses.{lit_holds, clause_holds}
 use Rattle.clause_spec.specs.declared.question.BaseKind.{BaseKind}
-use Rattle.clause_spec.specs.declared.question.BaseKind.TheVariants.{Plain, Sorted, Normal}
-use Rattle.clause_spec.specs.Variables.{variable_count}
-use Rattle.clause_spec.specs.Clauses.{base_clauses}
+use Rattle.clause_spec.specs.declared.question.BaseKind.TheVariants.{Plain, Sorted, Normal, Live}
+use Rattle.clause_spec.specs.Variables.{numbered, variable_count}
+use Rattle.clause_spec.specs.Clauses.{Clause, base_clauses}
 use Rattle.clause_spec.specs.Models.{model_of}
+use Rattle.clause_spec.proofs.Families.{KnownAll}
 use Rattle.clause_spec.proofs.InRange.{literals_in_range}
+use Rattle.clause_spec.proofs.Variables.{number_high}
 use Rattle.alike_clause_spec.specs.Turns.{turn_clauses}
 use Rattle.normal_clause_spec.specs.Variables.{normal_numbered}
 use Rattle.normal_clause_spec.specs.Clauses.{normal_clauses}
-use Rattle.base_spec.specs.Bases.{HasModelFor, clauses_of}
+use Rattle.live_clause_spec.specs.Live.{is_live}
+use Rattle.live_clause_spec.specs.Models.{spread}
+use Rattle.live_clause_spec.proofs.Base.{base_spread}
+use Rattle.base_spec.specs.Bases.{HasModelFor, clauses_of, on_plain}
 use Rattle.base_spec.specs.Laws.{BeginsWithPlain}
 
 -- values that agree up to a number
@@ -52,24 +57,25 @@ both_true values clauses more h k = list_all-append (clause_holds values) clause
 
 -- ---- models of plans
 
-module _ (d : Station) (routes : List Route) (n : ℕ) (plan : List (List Command)) (clauses more : List (List Lit)) where
-  -- further clauses over the plain base that are true of the plan come behind
-  pub extended : HasModelFor d routes n plan clauses → ((c : List Lit) → In c more → (l : Lit) → In l c → l.var ≤ variable_count d routes n) → list_all (clause_holds (model_of d routes n plan)) more ≡ true
-      → HasModelFor d routes n plan (clauses ++ more)
-  extended m over h = record {
-    values = m.values;
-    of_plan = m.of_plan;
-    holds = both_true m.values clauses more m.holds (all_alike m.values (model_of d routes n plan) (variable_count d routes n) m.of_plan more over h);
-  }
+module _ (kind : BaseKind) (d : Station) (routes : List Route) (n : ℕ) (plan : List (List Command)) (clauses more : List (List Lit)) where
+  -- further clauses come behind, where they say what clauses over the plain base say
+  module _ (plain : List (List Lit)) (alike : (values : ℕ → Bool) → list_all (clause_holds values) more ≡ list_all (clause_holds (on_plain kind d routes n values)) plain)
+      (over : (c : List Lit) → In c plain → (l : Lit) → In l c → l.var ≤ variable_count d routes n) where
+    -- that are true of the plan
+    pub extended : HasModelFor kind d routes n plan clauses → list_all (clause_holds (model_of d routes n plan)) plain ≡ true → HasModelFor kind d routes n plan (clauses ++ more)
+    extended m h = record {
+      values = m.values;
+      of_plan = m.of_plan;
+      holds = both_true m.values clauses more m.holds (alike m.values ∙ all_alike (on_plain kind d routes n m.values) (model_of d routes n plan) (variable_count d routes n) m.of_plan plain over h);
+    }
+
+    -- so they are where they stand there
+    pub last_part : HasModelFor kind d routes n plan (clauses ++ more) → list_all (clause_holds (model_of d routes n plan)) plain ≡ true
+    last_part m = all_alike (model_of d routes n plan) (on_plain kind d routes n m.values) (variable_count d routes n) (λ v h. sym (m.of_plan v h)) plain over (sym (alike m.values) ∙ last_true m.values clauses more m.holds)
 
   -- they can be left out
-  pub first_part : HasModelFor d routes n plan (clauses ++ more) → HasModelFor d routes n plan clauses
+  pub first_part : HasModelFor kind d routes n plan (clauses ++ more) → HasModelFor kind d routes n plan clauses
   first_part m = record { values = m.values; of_plan = m.of_plan; holds = first_true m.values clauses more m.holds }
-
-  -- and are true of the plan
-  pub last_part : HasModelFor d routes n plan (clauses ++ more) → ((c : List Lit) → In c more → (l : Lit) → In l c → l.var ≤ variable_count d routes n)
-      → list_all (clause_holds (model_of d routes n plan)) more ≡ true
-  last_part m over = all_alike (model_of d routes n plan) m.values (variable_count d routes n) (λ v h. sym (m.of_plan v h)) more over (last_true m.values clauses more m.holds)
 
 -- ---- the plain base
 
@@ -81,14 +87,22 @@ pub base_over : (d : Station) (routes : List Route) (n : ℕ) → 1 ≤ n → (c
 base_over d routes n some c m l i = let r = literals_in_range d routes n some c m l i in at_most l.var (variable_count d routes n) r.1
 
 -- each base begins with it
-pub begins_with_plain : (kind : BaseKind) (d : Station) (routes : List Route) (n : ℕ) → BeginsWithPlain kind d routes n
-begins_with_plain Plain d routes n values h = h
-begins_with_plain Sorted d routes n values h = first_true values (base_clauses d routes n) (turn_clauses d routes n (neighbors d)) h
-begins_with_plain Normal d routes n values h = first_true values (base_clauses d routes n) (map (map (normal_numbered d routes n)) (normal_clauses d routes n)) h
+pub begins_with_plain : (kind : BaseKind) (d : Station) (routes : List Route) (n : ℕ) → 1 ≤ n → BeginsWithPlain kind d routes n
+begins_with_plain Plain d routes n some values h = h
+begins_with_plain Sorted d routes n some values h = first_true values (base_clauses d routes n) (turn_clauses d routes n (neighbors d)) h
+begins_with_plain Normal d routes n some values h = first_true values (base_clauses d routes n) (map (map (normal_numbered d routes n)) (normal_clauses d routes n)) h
+begins_with_plain Live d routes n some values h =
+    first_true (spread (is_live d routes) d routes n values) (base_clauses d routes n) (turn_clauses d routes n (neighbors d)) (sym (base_spread (is_live d routes) d routes n some values) ∙ h)
 
 -- a plan with a model for a base makes the plain base true
-pub plain_holds : (kind : BaseKind) (d : Station) (routes : List Route) (n : ℕ) (plan : List (List Command)) → 1 ≤ n → HasModelFor d routes n plan (clauses_of kind d routes n)
+pub plain_holds : (kind : BaseKind) (d : Station) (routes : List Route) (n : ℕ) (plan : List (List Command)) → 1 ≤ n → HasModelFor kind d routes n plan (clauses_of kind d routes n)
     → list_all (clause_holds (model_of d routes n plan)) (base_clauses d routes n) ≡ true
 plain_holds kind d routes n plan some m =
-    all_alike (model_of d routes n plan) m.values (variable_count d routes n) (λ v h. sym (m.of_plan v h)) (base_clauses d routes n) (base_over d routes n some)
-    (begins_with_plain kind d routes n m.values m.holds)
+    all_alike (model_of d routes n plan) (on_plain kind d routes n m.values) (variable_count d routes n) (λ v h. sym (m.of_plan v h)) (base_clauses d routes n) (base_over d routes n some)
+    (begins_with_plain kind d routes n some m.values m.holds)
+
+-- each clause over variables that there are is over the numbers of the plain base
+pub known_over : (d : Station) (routes : List Route) (n : ℕ) (cl : Clause) → KnownAll d routes n cl → (l : Lit) → In l (map (numbered d routes n) cl) → l.var ≤ variable_count d routes n
+known_over d routes n cl known l i =
+    let f = in_map_back (numbered d routes n) cl l i in
+    subst (λ (x : Lit). x.var ≤ variable_count d routes n) f.2 (number_high d routes n f.0.variable (known f.0 f.1))

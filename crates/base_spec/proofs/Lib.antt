@@ -3,3 +3,4 @@ pub mod Turning
 pub mod Retold
 pub mod Models
 pub mod Ranges
+pub mod Left

@@ -1,17 +1,18 @@
 -- Feasible plans have values that make the clauses of each base true, and such values give plans that have some.
-use Rattle.std.proofs.Common.{◌≡◌, ℕ, ◌≤◌, Bool, true, List, nat_le, refl, sym, ◌∙◌, arith, le-leb}
+use Rattle.std.proofs.Common.{◌≡◌, ℕ, ◌+◌, ◌≤◌, Bool, true, List, nat_le, refl, sym, ◌∙◌, arith, le-leb}
 use Rattle.std.specs.List.{list_all}
+use Rattle.rail_base.specs.declared.route.Route.{Route}
 use Rattle.rail_base.specs.declared.station.Station.{Station}
 use Rattle.rail_base.specs.declared.plan.Command.{Command}
 use Rattle.rail_base.specs.Admitted.{IsAdmitted}
 use Rattle.rail_base.proofs.Lists.{list_all_from}
 use Rattle.rail_spec.specs.Track.{routes_of}
 use Rattle.rail_spec.specs.Plans.{commands, step_of}
-use Rattle.rail_spec.specs.Feasible.{IsFeasible}
+use Rattle.rail_spec.specs.Feasible.{IsFeasible, IsRunnable}
 use Rattle.rail_alike.specs.Tests.{neighbors}
 use Rattle.sat_clause.specs.Clauses.{clause_holds}
 use Rattle.clause_spec.specs.declared.question.BaseKind.{BaseKind}
-use Rattle.clause_spec.specs.declared.question.BaseKind.TheVariants.{Plain, Sorted, Normal}
+use Rattle.clause_spec.specs.declared.question.BaseKind.TheVariants.{Plain, Sorted, Normal, Live}
 use Rattle.clause_spec.specs.Variables.{By, number_of}
 use Rattle.clause_spec.specs.Clauses.{base_clauses}
 use Rattle.clause_spec.specs.Models.{is_so, decoded, model_of}
@@ -19,15 +20,22 @@ use Rattle.clause_spec.proofs.DecodedModels.{retold}
 use Rattle.clause_spec.proofs.Numbers.{model_says}
 use Rattle.clause_spec.proofs.Shown.{more_feasible, short_enough}
 use Rattle.clause_spec.proofs.Steps.{step_high}
-use Rattle.clause_spec.proofs.Theorems.{feasible_plans_are_models}
+use Rattle.clause_spec.proofs.Theorems.{feasible_plans_are_models, models_are_plans}
 use Rattle.clause_spec.proofs.Variables.{number_high}
+use Rattle.alike_clause_spec.specs.Sorted.{sorted_base}
 use Rattle.alike_clause_spec.specs.Turns.{turn_clauses}
 use Rattle.alike_clause_spec.proofs.Holding.{has_model}
 use Rattle.normal_clause_spec.specs.Models.{normal_model_of}
 use Rattle.normal_clause_spec.proofs.Shown.{has_normal_model}
 use Rattle.normal_clause_spec.proofs.Values.{on_base}
+use Rattle.live_clause_spec.specs.Live.{is_live}
+use Rattle.live_clause_spec.specs.Models.{live_model_of, spread}
+use Rattle.live_clause_spec.proofs.Base.{base_of_plan}
+use Rattle.live_clause_spec.proofs.Shown.{give_plans, have_live_models}
+use Rattle.live_clause_spec.proofs.Spread.{live_same, model_spread, spread_says}
+use Rattle.base_spec.specs.Bases.{before_selectors, clauses_of, decoded_of, on_plain}
 use Rattle.base_spec.specs.Laws.{HasModelBy, ModelsGivePlans}
-use Rattle.base_spec.proofs.Alike.{both_true, first_true, last_true}
+use Rattle.base_spec.proofs.Alike.{begins_with_plain, both_true, first_true, last_true}
 use Rattle.base_spec.proofs.Retold.{joined, joined_low, normal_retold}
 use Rattle.base_spec.proofs.Turning.{turns_retold}
 
@@ -61,13 +69,53 @@ module _ (d : Station) (n k : ℕ) (some : 1 ≤ k) (within : k ≤ n) where
         plan = m.plan;
         feasible = m.feasible;
         model = record { values = normal_model_of d (routes_of d) n m.plan; of_plan = on_base d (routes_of d) n m.plan; holds = m.holds };
-        by = sym (on_base d (routes_of d) n m.plan (number_of d (routes_of d) n (By k)) (number_high d (routes_of d) n (By k) (some, within))) ∙ m.by;
+        by = m.by;
+      }
+
+  live_model : (plan : List (List Command)) → IsFeasible d k plan → HasModelBy Live d n k
+  live_model plan f =
+      let m = have_live_models d n k some within plan f in
+      let live = is_live d (routes_of d) in
+      record {
+        plan = m.plan;
+        feasible = m.feasible;
+        model = record { values = live_model_of live d (routes_of d) n m.plan; of_plan = λ v h. model_spread live d (routes_of d) n m.plan m.live_alone v; holds = m.holds };
+        by = m.by;
       }
 
   pub has_model_by : (kind : BaseKind) → IsAdmitted d → (plan : List (List Command)) → IsFeasible d k plan → HasModelBy kind d n k
   has_model_by Plain admitted plan f = plain_model plan f
   has_model_by Sorted admitted plan f = sorted_model plan f
   has_model_by Normal admitted plan f = normal_model admitted plan f
+  has_model_by Live admitted plan f = live_model plan f
+
+-- the value that says that all is given by step k
+pub by_on_plain : (kind : BaseKind) (d : Station) (routes : List Route) (n k : ℕ) → 1 ≤ k → k ≤ n → (values : ℕ → Bool)
+    → on_plain kind d routes n values (number_of d routes n (By k)) ≡ values (before_selectors kind d routes n + k)
+by_on_plain Plain d routes n k low high values = refl
+by_on_plain Sorted d routes n k low high values = refl
+by_on_plain Normal d routes n k low high values = refl
+by_on_plain Live d routes n k low high values = spread_says (is_live d routes) d routes n values (By k) (low, high) ∙ live_same (is_live d routes) d routes n values (By k) refl
+
+-- so it is in the model of a plan
+pub by_of_plan : (kind : BaseKind) (d : Station) (n k : ℕ) → 1 ≤ k → k ≤ n → (m : HasModelBy kind d n k) → model_of d (routes_of d) n m.plan (number_of d (routes_of d) n (By k)) ≡ true
+by_of_plan kind d n k low high m =
+    sym (m.model.of_plan (number_of d (routes_of d) n (By k)) (number_high d (routes_of d) n (By k) (low, high)))
+    ∙ (by_on_plain kind d (routes_of d) n k low high m.model.values ∙ m.by)
+
+-- the plan that values give can be carried out
+pub gives_runnable : (kind : BaseKind) (d : Station) (routes : List Route) (n : ℕ) → 1 ≤ n → (values : ℕ → Bool) → list_all (clause_holds values) (clauses_of kind d routes n) ≡ true
+    → IsRunnable d routes n (decoded_of kind d routes n values)
+gives_runnable kind d routes n some values h = (models_are_plans d routes n (on_plain kind d routes n values) some (begins_with_plain kind d routes n some values h)).0
+
+-- values that make the sorted base true give a plan whose model does
+sorted_retold : (d : Station) (n : ℕ) → 1 ≤ n → (values : ℕ → Bool) → list_all (clause_holds values) (sorted_base d (routes_of d) n) ≡ true
+    → list_all (clause_holds (model_of d (routes_of d) n (decoded d (routes_of d) n values))) (sorted_base d (routes_of d) n) ≡ true
+sorted_retold d n some values h =
+    let base = base_clauses d (routes_of d) n in
+    let turns = turn_clauses d (routes_of d) n (neighbors d) in
+    let true_ : list_all (clause_holds values) (base_clauses d (routes_of d) n) ≡ true = first_true values base turns h in
+    both_true (model_of d (routes_of d) n (decoded d (routes_of d) n values)) base turns (retold d (routes_of d) n values true_ some) (turns_retold d n values true_ (last_true values base turns h))
 
 pub gives_plan : (kind : BaseKind) (d : Station) (n : ℕ) → 1 ≤ n → ModelsGivePlans kind d n
 gives_plan Plain d n some values h = record {
@@ -75,18 +123,23 @@ gives_plan Plain d n some values h = record {
   of_plan = λ v l. refl;
   holds = retold d (routes_of d) n values h some;
 }
-gives_plan Sorted d n some values h =
-    let model : ℕ → Bool = model_of d (routes_of d) n (decoded d (routes_of d) n values) in
-    let base = base_clauses d (routes_of d) n in
-    let turns = turn_clauses d (routes_of d) n (neighbors d) in
-    let true_ : list_all (clause_holds values) (base_clauses d (routes_of d) n) ≡ true = first_true values base turns h in
-    record {
-      values = model;
-      of_plan = λ v l. refl;
-      holds = both_true model base turns (retold d (routes_of d) n values true_ some) (turns_retold d n values true_ (last_true values base turns h));
-    }
+gives_plan Sorted d n some values h = record {
+  values = model_of d (routes_of d) n (decoded d (routes_of d) n values);
+  of_plan = λ v l. refl;
+  holds = sorted_retold d n some values h;
+}
 gives_plan Normal d n some values h = record {
   values = joined d (routes_of d) n values;
   of_plan = joined_low d (routes_of d) n values;
   holds = normal_retold d (routes_of d) n values some h;
 }
+gives_plan Live d n some values h =
+    let live = is_live d (routes_of d) in
+    let whole = spread live d (routes_of d) n values in
+    let plan = decoded d (routes_of d) n whole in
+    let told = give_plans live d (routes_of d) n some values h in
+    record {
+      values = live_model_of live d (routes_of d) n plan;
+      of_plan = λ v l. model_spread live d (routes_of d) n plan told.1 v;
+      holds = base_of_plan live d (routes_of d) n some plan told.1 ∙ sorted_retold d n some whole told.0;
+    }

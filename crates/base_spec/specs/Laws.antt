@@ -1,5 +1,5 @@
 -- What the laws of all bases speak of.
-use Rattle.std.specs.Prelude.{ℕ, ◌≡◌, ◌≢◌, ◌≤◌, Bool, true, List}
+use Rattle.std.specs.Prelude.{ℕ, ◌≡◌, ◌≢◌, ◌+◌, ◌≤◌, Bool, true, List}
 use Rattle.std.specs.List.{list_all}
 use Rattle.rail_base.specs.declared.station.Station.{Station}
 use Rattle.rail_base.specs.declared.route.Route.{Route}
@@ -12,16 +12,15 @@ use Rattle.sat_clause.specs.declared.lit.Lit.{Lit}
 use Rattle.sat_clause.specs.Clauses.{clause_holds}
 use Rattle.clause_spec.specs.declared.question.BaseKind.{BaseKind}
 use Rattle.clause_spec.specs.Clauses.{base_clauses}
-use Rattle.clause_spec.specs.Models.{decoded, model_of}
-use Rattle.clause_spec.specs.Variables.{By, number_of}
-use Rattle.base_spec.specs.Bases.{HasModelFor, clauses_of, variables_of}
+use Rattle.base_spec.specs.Bases.{HasModelFor, before_selectors, clauses_of, decoded_of, on_plain, variables_of}
 
--- a plan that is feasible for n steps, all given by step k, and has values that make the clauses of the base true
+-- a plan that is feasible for n steps, and has values that make the clauses of the base true and say that all is given
+-- by step k
 pub record HasModelBy (kind : BaseKind) (d : Station) (n k : ℕ) : Type 0 where
   pub plan : List (List Command)
   pub feasible : IsFeasible d n plan
-  pub model : HasModelFor d (routes_of d) n plan (clauses_of kind d (routes_of d) n)
-  pub by : model_of d (routes_of d) n plan (number_of d (routes_of d) n (By k)) ≡ true
+  pub model : HasModelFor kind d (routes_of d) n plan (clauses_of kind d (routes_of d) n)
+  pub by : model.values (before_selectors kind d (routes_of d) n + k) ≡ true
 
 -- where a plan of k steps is feasible, there is such a one
 abbrev pub FeasibleHaveModelsBy : BaseKind → Station → ℕ → ℕ → Type 0
@@ -32,15 +31,15 @@ FeasibleHaveModelsBy kind d n k = IsAdmitted d → (plan : List (List Command)) 
 abbrev pub ModelsGivePlans : BaseKind → Station → ℕ → Type 0
 ModelsGivePlans kind d n = (values : ℕ → Bool)
     → list_all (clause_holds values) (clauses_of kind d (routes_of d) n) ≡ true
-    → HasModelFor d (routes_of d) n (decoded d (routes_of d) n values) (clauses_of kind d (routes_of d) n)
+    → HasModelFor kind d (routes_of d) n (decoded_of kind d (routes_of d) n values) (clauses_of kind d (routes_of d) n)
 
 -- values that make them true make those of the plain base true
 abbrev pub BeginsWithPlain : BaseKind → Station → List Route → ℕ → Type 0
 BeginsWithPlain kind d routes n = (values : ℕ → Bool)
     → list_all (clause_holds values) (clauses_of kind d routes n) ≡ true
-    → list_all (clause_holds values) (base_clauses d routes n) ≡ true
+    → list_all (clause_holds (on_plain kind d routes n values)) (base_clauses d routes n) ≡ true
 
 -- each literal has a variable from 1 on that there is, and none the one which says that all is given by step n
 abbrev pub AreInRangeOf : BaseKind → Station → List Route → ℕ → Type 0
 AreInRangeOf kind d routes n = (c : List Lit) → In c (clauses_of kind d routes n) → (l : Lit) → In l c
-    → (1 ≤ l.var) × (l.var ≤ (variables_of kind d routes n).count) × (l.var ≢ number_of d routes n (By n))
+    → (1 ≤ l.var) × (l.var ≤ (variables_of kind d routes n).count) × (l.var ≢ before_selectors kind d routes n + n)

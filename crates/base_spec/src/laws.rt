@@ -20,7 +20,8 @@ pub fn models_give_plans()
 
 /// Values that make the clauses of a base true make those of the plain base true.
 pub fn bases_begin_with_the_plain_one()
-    ensures { (kind : BaseKind) (d : Station) (routes : List Route) (n : ℕ) → BeginsWithPlain kind d routes n }
+    ensures { (kind : BaseKind) (d : Station) (routes : List Route) (n : ℕ) → 1 ≤ n
+        → BeginsWithPlain kind d routes n }
 {}
 
 /// The variables are numbered from 1, and none of the clauses says by which step all is given at the latest.

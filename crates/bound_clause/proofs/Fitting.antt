@@ -1,5 +1,5 @@
 -- What a certificate that names the design says of its legs.
-use Rattle.std.proofs.Common.{◌≡◌, ℕ, zero, suc, ◌-◌, ◌≤◌, ◌<◌, get_or, arith, inl, inr, Bool, true, not, ◌&&◌, nat_le, List, [], ◌∷◌, length, All, Option, Some, None, option_map, refl, sym, subst, leb-true, true≢false}
+use Rattle.std.proofs.Common.{◌≡◌, ℕ, zero, suc, ◌-◌, ◌≤◌, ◌<◌, get_or, arith, inl, inr, Bool, true, not, ◌&&◌, nat_le, List, [], ◌∷◌, length, Option, Some, None, option_map, refl, sym, subst, leb-true, true≢false}
 use Rattle.std.specs.List.{list_all}
 use Rattle.rail_base.specs.declared.station.Station.{Station}
 use Rattle.rail_base.specs.declared.station.TrainNo.{TrainNo}
@@ -18,7 +18,6 @@ use Rattle.rail_spec.specs.Plans.{is_train, contend, all_commands}
 use Rattle.clause_spec.specs.Variables.{pairs}
 use Rattle.clause_spec.proofs.Places.{pair_from}
 use Rattle.cone_spec.proofs.Saying.{in_all}
-use Rattle.cone_form.proofs.Ranges.{all_routes}
 use Rattle.cone_form.proofs.Orders.{member_at}
 use Rattle.cone_spec.specs.declared.Cone.{Cone}
 use Rattle.cone_spec.specs.Validity as cone
@@ -86,10 +85,6 @@ module _ (d : Station) (routes : List Route) where
       let one = list_all_at (λ r. contends_with d routes (record { train = l.train; route = r }) m.train (first_of_leg m)) (routes_of_place (last_of_leg l)) r both i in
       let two = list_all_at (λ q. contend_over_own d routes (record { train = l.train; route = r }) (record { train = m.train; route = q })) (routes_of_place (first_of_leg m)) q one j in
       pair_from d routes (record { train = l.train; route = r }) (record { train = m.train; route = q }) (last_command l r h i) (first_command m q k j) (and_left (contend routes (record { train = l.train; route = r }) (record { train = m.train; route = q })) _ two)
-
-  -- the routes that a train does not use are ones of the design
-  pub without_fits : (rs without : List RouteNo) → place_in_design d routes (place.Among rs without) ≡ true → All (IsRoute routes) without
-  without_fits rs without h = all_routes routes without (and_right _ (list_all (is_numbered d routes) without) (and_left _ (are_increasing without) h))
 
   at_next : (test : Leg → Leg → Bool) (ls : List Leg) (j : ℕ) (a b : Leg) → all_neighbors test ls ≡ true → suc j < length ls → test (get_or ls j a) (get_or ls (suc j) b) ≡ true
   at_next test [] j a b h k = absurd (omega arith)

@@ -1,5 +1,5 @@
 -- The facts in the clause of a certificate are ones for which the base has a variable.
-use Rattle.std.proofs.Common.{◌≡◌, ◌⊎◌, inl, inr, Bool, true, false, not, ◌&&◌, ◌||◌, if◌then◌else◌, nat_le, List, [], ◌∷◌, flat_map, Option, None, Some, refl, sym, ap, subst, ◌∙◌, true≢false}
+use Rattle.std.proofs.Common.{◌≡◌, ℕ, ◌≤◌, ◌∙◌, ◌⊎◌, inl, inr, Bool, true, false, not, ◌&&◌, ◌||◌, if◌then◌else◌, nat_le, List, [], ◌∷◌, flat_map, Option, None, Some, refl, sym, ap, subst, ◌∙◌, true≢false}
 use Rattle.std.specs.List.{list_all}
 use Rattle.rail_base.specs.declared.station.Station.{Station}
 use Rattle.rail_base.specs.declared.route.Route.{Route}
@@ -7,14 +7,19 @@ use Rattle.rail_base.specs.declared.plan.Command.{Command}
 use Rattle.rail_spec.specs.Plans.{route_at, is_train, share, contend, all_commands}
 use Rattle.rail_base.specs.Members.{all_neighbors}
 use Rattle.rail_base.proofs.Members.{In, and_left, and_right, and_both, either, list_all_at}
-use Rattle.rail_base.proofs.Lists.{in_append, in_flat_map_back}
+use Rattle.rail_base.proofs.Lists.{in_append, in_flat_map_back, in_map_back}
 use Rattle.rail_laws.proofs.Given.{same_train}
 use Rattle.clause_spec.proofs.Facts.{contend_sym}
 use Rattle.cone_spec.specs.Cones.{has_pair, is_free}
 use Rattle.cone_spec.specs.Validity as cone
 use Rattle.cone_spec.specs.Clauses.{Used, Before, Literal}
 use Rattle.cone_spec.proofs.Naming.{of_design, listed_is, has_route_in}
-use Rattle.cone_clause.proofs.Known.{IsKnown}
+use Rattle.clause_spec.specs.Variables.{By, Literal as BaseLiteral}
+use Rattle.clause_spec.proofs.Families.{KnownAll}
+use Rattle.clause_spec.proofs.Numbers.{Known}
+use Rattle.cone_clause.specs.Numbered.{base_literal}
+use Rattle.cone_clause.proofs.Known.{IsKnown, fact_known, not_by}
+use Rattle.bound_clause.specs.Numbered.{base_clause_of_bound}
 use Rattle.bound_spec.specs.declared.Origin.{Origin}
 use Rattle.bound_spec.specs.declared.Origin.TheVariants as origin
 use Rattle.bound_spec.specs.declared.Leg.{Leg}
@@ -133,3 +138,16 @@ module _ (d : Station) (routes : List Route) (b : Bound) (fits : in_design d rou
           let a = in_flat_map_back (λ e. flat_map (before_literals d routes b e) (all_commands d routes)) (all_commands d routes) l m in
           let c = in_flat_map_back (before_literals d routes b a.0) (all_commands d routes) l a.2 in
           before_known a.0 c.0 l a.1 c.1 c.2
+
+-- ---- over the variables of the base
+
+pub known_bound : (d : Station) (routes : List Route) (n : ℕ) → 1 ≤ n → (b : Bound) → in_design d routes b ≡ true → KnownAll d routes n (base_clause_of_bound d routes n b)
+known_bound d routes n some b fits l m =
+    let f = in_map_back (base_literal n) (clause_of_bound d routes b) l m in
+    subst (λ (x : BaseLiteral). Known d routes n x.variable) f.2 (fact_known d routes n some f.0.fact (all_known d routes b fits f.0 f.1))
+
+-- no literal says that all is given by a step
+pub none_by : (d : Station) (routes : List Route) (n : ℕ) (b : Bound) (l : BaseLiteral) → In l (base_clause_of_bound d routes n b) → (i : ℕ) → l.variable ≡ By i → ⊥
+none_by d routes n b l m i e =
+    let f = in_map_back (base_literal n) (clause_of_bound d routes b) l m in
+    not_by n i f.0.fact (ap (λ (x : BaseLiteral). x.variable) f.2 ∙ e)

@@ -13,7 +13,6 @@ use Rattle.rail_spec.specs.Plans.{route_at, is_train, is_command, contend, start
 use Rattle.rail_laws.proofs.Given.{same_train}
 use Rattle.clause_spec.specs.Variables.{pairs}
 use Rattle.clause_spec.proofs.Places.{command_of, pair_of, pair_from}
-use Rattle.cone_form.proofs.Contending.{mirrored}
 use Rattle.cone_spec.specs.Cones as cone
 use Rattle.cone_spec.specs.Cones.{has_route, is_free, has_pair, named}
 use Rattle.cone_spec.specs.Clauses as words
@@ -30,6 +29,7 @@ use Rattle.bound_spec.specs.Certificates.{VisitOf, routes_of_place, named_at, ke
 use Rattle.bound_spec.specs.Clauses.{any_next, stands_in, is_at, meet_named, are_where_they_meet, joins, may_join, begins_at_once, is_named, is_past_cone, is_kept_out, is_before, is_kept_behind, used_literals, before_literals, clause_of_bound}
 use Rattle.bound_spec.specs.Validity.{names_design}
 use Rattle.bound_clause.specs.Said.{used_by, not_used_by, said_of_place, said_of_leg, said_of_legs, said_of_pair, said_after, said_between, said_of_meetings, said_before, said_of_start, said_at, said_of_origin, said_literals}
+use Rattle.bound_clause.proofs.Numbering.{mirrored}
 use Rattle.bound_clause.proofs.Fitting.{train_fits, place_fits, numbered_in, numbered_out, command_in, first_command, last_command, leg_fits}
 
 -- ---- literals that are there where a test passes

@@ -7,6 +7,7 @@ mod meetings;
 mod numbered;
 mod order;
 mod places;
+mod remainder;
 mod starts;
 mod variables;
 

@@ -5,18 +5,18 @@ ghost use Rattle.rail_base.specs.Members.{In};
 ghost use Rattle.bound_spec.specs.Certificates.{first_of_leg, is_named_place, last_of_leg};
 ghost use Rattle.bound_spec.specs.Clauses.{meet_named};
 ghost use Rattle.bound_clause.specs.Said.{said_after, said_between, said_of_meetings, said_of_pair};
-ghost use Rattle.bound_clause.specs.Spoken.{ContendAll, ContendWithAll, numbered, pairs_in, Adds};
+ghost use Rattle.bound_clause.specs.Spoken.{ContendAll, ContendWithAll, pairs_in, Adds};
 
 use crate::numbered::NumberedBound;
+use crate::remainder::Remainder;
 use bound_spec::{Leg, Place, first_routes, last_routes};
 use rail_base::plan::Command;
 use rail_base::route::RouteNo;
-use sat_clause::Lit;
 use std::alloc::AllocError;
 
 impl NumberedBound<'_> {
     /// Puts what is said of the commands with which legs meet at the end.
-    pub(crate) fn push_meetings(&self, clause: &mut Vec<Lit>) -> Result<(), AllocError>
+    pub(crate) fn push_meetings(&self, clause: &mut Remainder) -> Result<(), AllocError>
         ensures { OnOk result (Adds self.now clause.old clause.new (said_of_meetings self.now.bound.now.legs)) }
     {
         let legs = self.bound.legs.as_slice();
@@ -26,22 +26,28 @@ impl NumberedBound<'_> {
         Ok(())
     }
 
-    /// What is said of the last command of one leg and the first of the next.
-    fn meeting(&self, named: bool, last: Command, first: Command) -> Lit
+    /// Puts what is said of the last command of one leg and the first of the next at the end.
+    fn push_meeting(
+        &self,
+        clause: &mut Remainder,
+        named: bool,
+        last: Command,
+        first: Command,
+    ) -> Result<(), AllocError>
         requires { In (last, first) (pairs_in self.now) }
-        ensures { numbered self.now (said_of_pair named last first ∷ []) ≡ result ∷ [] }
+        ensures { OnOk result (Adds self.now clause.old clause.new (said_of_pair named last first ∷ [])) }
     {
         if named {
-            self.before((last, first), true)
+            self.say_before(clause, (last, first), true)
         } else {
-            self.before((first, last), false)
+            self.say_before(clause, (first, last), false)
         }
     }
 
     /// Puts what is said of one last command of a leg and each first one of the next at the end of a clause.
     fn push_after(
         &self,
-        clause: &mut Vec<Lit>,
+        clause: &mut Remainder,
         named: bool,
         last: Command,
         next: &Leg,
@@ -54,13 +60,13 @@ impl NumberedBound<'_> {
                 train: next.train,
                 route: *number,
             };
-            clause.push(self.meeting(named, last, first))?;
+            self.push_meeting(clause, named, last, first)?;
         }
         Ok(())
     }
 
     /// Puts what is said of the commands with which two legs meet at the end.
-    fn push_between(&self, clause: &mut Vec<Lit>, leg: &Leg, next: &Leg) -> Result<(), AllocError>
+    fn push_between(&self, clause: &mut Remainder, leg: &Leg, next: &Leg) -> Result<(), AllocError>
         requires { ContendAll (pairs_in self.now) leg.now next.now }
         ensures { OnOk result (Adds self.now clause.old clause.new (said_between leg.now next.now)) }
     {

@@ -2,10 +2,10 @@
 
 ghost use Rattle.std.specs.Prelude.{◌≡◌, true};
 ghost use Rattle.bound_spec.specs.Validity.{names_design};
-ghost use Rattle.cone_form.specs.Contentions.{over};
+ghost use Rattle.cone_clause.specs.Contentions.{over};
 
 use bound_spec::Bound;
-use cone_form::Contention;
+use cone_clause::Contention;
 use interlocking::Steps;
 
 /// A certificate that speaks of the design, and how many steps the plans have that its clause is for.

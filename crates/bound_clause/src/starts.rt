@@ -5,21 +5,25 @@ ghost use Rattle.rail_base.specs.Routes.{IsRoute, route_at};
 ghost use Rattle.rail_base.specs.Stations.{IsTrain};
 ghost use Rattle.bound_spec.specs.Certificates.{visit_from};
 ghost use Rattle.bound_clause.specs.Said.{said_before, said_of_start, said_of_starts};
-ghost use Rattle.bound_clause.specs.Spoken.{numbered, pairs_in, routes_in, station_of, Adds, of_design, begins};
+ghost use Rattle.bound_clause.specs.Spoken.{pairs_in, routes_in, station_of, Adds, of_design, begins};
 ghost use Rattle.bound_clause.specs.Spoken.{origin_literals};
 
 use crate::numbered::NumberedBound;
+use crate::remainder::Remainder;
 use bound_spec::{Origin, Requirement};
 use interlocking::has_node;
 use rail_base::plan::Command;
 use rail_base::route::{RouteNo, Start, route_at};
 use rail_base::station::TrainNo;
-use sat_clause::Lit;
 use std::alloc::{AllocError, Global};
 
 impl NumberedBound<'_> {
     /// Puts what is said of the origin's first tick at the end.
-    pub(crate) fn push_origin(&self, alloc: Global, clause: &mut Vec<Lit>) -> Result<(), AllocError>
+    pub(crate) fn push_origin(
+        &self,
+        alloc: Global,
+        clause: &mut Remainder,
+    ) -> Result<(), AllocError>
         ensures { OnOk result (Adds self.now clause.old clause.new (origin_literals self.now)) }
     {
         match (&self.bound.origin, self.train_from()) {
@@ -47,14 +51,14 @@ impl NumberedBound<'_> {
     fn push_before(
         &self,
         alloc: Global,
-        clause: &mut Vec<Lit>,
+        clause: &mut Remainder,
         command: Command,
     ) -> Result<(), AllocError>
         ensures { OnOk result (Adds self.now clause.old clause.new (said_before (pairs_in self.now) command)) }
     {
         let others = self.contention.pairs.rivals(alloc, command)?;
         for other in &others {
-            clause.push(self.before((*other, command), false))?;
+            self.say_before(clause, (*other, command), false)?;
         }
         Ok(())
     }
@@ -63,7 +67,7 @@ impl NumberedBound<'_> {
     fn push_start(
         &self,
         alloc: Global,
-        clause: &mut Vec<Lit>,
+        clause: &mut Remainder,
         command: Command,
     ) -> Result<(), AllocError>
         requires train { IsTrain (station_of self.now) command.train }
@@ -80,7 +84,7 @@ impl NumberedBound<'_> {
     fn push_starts(
         &self,
         alloc: Global,
-        clause: &mut Vec<Lit>,
+        clause: &mut Remainder,
         train: TrainNo,
     ) -> Result<(), AllocError>
         requires { IsTrain (station_of self.now) train }

@@ -3,7 +3,7 @@
 ghost use Rattle.std.specs.Prelude.{◌≡◌, true, IfOk};
 ghost use Rattle.bound_spec.specs.Validity.{names_design};
 ghost use Rattle.bound_design.specs.Named.{is_chain, is_stated, names_fit};
-ghost use Rattle.cone_form.specs.Contentions.{over};
+ghost use Rattle.interlocking.specs.Plans.{on};
 
 use crate::choices::are_few_choices;
 use crate::legs::{are_few_places, legs_in_design};
@@ -13,7 +13,6 @@ use crate::origin::origin_in_design;
 use crate::requirement;
 use crate::requirement::requirement_in_design;
 use bound_spec::{Bound, last_train};
-use cone_form::Contention;
 use interlocking::Interlocking;
 use std::alloc::{AllocError, Global};
 
@@ -24,18 +23,18 @@ use std::alloc::{AllocError, Global};
 /// Want of memory alone.
 pub fn names_design(
     alloc: Global,
-    contention: &Contention,
+    interlocking: &Interlocking,
     bound: &Bound,
 ) -> Result<bool, AllocError>
-    ensures { IfOk result (λ b. b ≡ over contention.now names_design bound.now) }
+    ensures { IfOk result (λ b. b ≡ on interlocking.now names_design bound.now) }
 {
-    if !is_stated(contention.interlocking, bound) {
+    if !is_stated(interlocking, bound) {
         return Ok(false);
     }
-    if !is_chain(contention.interlocking, bound) {
+    if !is_chain(interlocking, bound) {
         return Ok(false);
     }
-    origin_in_design(alloc, contention, bound)
+    origin_in_design(alloc, interlocking, bound)
 }
 
 /// Whether the design has what is required and what the legs name.

@@ -2,7 +2,7 @@
 
 ghost use Rattle.std.specs.Prelude.{◌≡◌, ◌<◌, true, All, IfOk, IfSome, length};
 ghost use Rattle.bound_spec.specs.Validity.{names_design};
-ghost use Rattle.cone_form.specs.Contentions.{over};
+ghost use Rattle.interlocking.specs.Plans.{on};
 
 use crate::choosing::{Breadth, Form};
 use crate::routes::has_route;
@@ -16,7 +16,7 @@ use bound_chains::tables::Tables;
 use bound_chains::ticks::Ticks;
 use bound_design::names_design;
 use bound_spec::{Bound, Leg, Origin};
-use cone_form::Contention;
+use interlocking::Interlocking;
 use rail_base::history::History;
 use rail_base::list::List;
 use rail_base::plan::{Plan, Violation};
@@ -61,14 +61,13 @@ impl Finder {
     /// on.
     pub fn bounds(
         &mut self,
-        contention: &Contention,
+        interlocking: &Interlocking,
         plan: &Plan,
         history: &History,
         violation: Violation,
     ) -> Result<Vec<Bound>, AllocError>
-        ensures { IfOk result (λ bounds. All (λ bound. over contention.now names_design bound ≡ true) bounds.items) }
+        ensures { IfOk result (λ bounds. All (λ bound. on interlocking.now names_design bound ≡ true) bounds.items) }
     {
-        let interlocking = contention.interlocking;
         if self.tables.is_none() {
             self.tables = Some(Tables::of(self.alloc, interlocking)?);
         }
@@ -82,21 +81,21 @@ impl Finder {
         let mut search = BoundSearch { chains };
         let found = search.candidates(goals.as_slice())?;
         let bounds = search.in_order(found)?;
-        in_design(self.alloc, contention, bounds)
+        in_design(self.alloc, interlocking, bounds)
     }
 }
 
 /// Those of which the design has all that they name, in order.
 fn in_design(
     alloc: Global,
-    contention: &Contention,
+    interlocking: &Interlocking,
     bounds: Vec<Bound>,
 ) -> Result<Vec<Bound>, AllocError>
-    ensures { IfOk result (λ kept. All (λ bound. over contention.now names_design bound ≡ true) kept.items) }
+    ensures { IfOk result (λ kept. All (λ bound. on interlocking.now names_design bound ≡ true) kept.items) }
 {
     let mut kept = Vec::new(alloc);
     for bound in bounds {
-        if names_design(alloc, contention, &bound)? {
+        if names_design(alloc, interlocking, &bound)? {
             kept.push(bound)?;
         }
     }

@@ -55,25 +55,25 @@ is_between b legs = on b.interlocking.now are_ahead (visit_of b.from) (visit_of 
 module _ (c : Claim) where
   -- so many ticks are too many for what is required
   abbrev pub takes_too_long : ℕ → Bool
-  takes_too_long ticks = on c.contention.interlocking.now is_too_long c.bound.now.requirement ticks
+  takes_too_long ticks = on c.interlocking.now is_too_long c.bound.now.requirement ticks
 
   -- the ticks of the claim's legs to a visit
   abbrev pub ticks_until : Option Visit → ℕ
-  ticks_until to = ticks_of c.contention.interlocking.now c.most c.bound.now (origin_of to)
+  ticks_until to = ticks_of c.interlocking.now c.most c.bound.now (origin_of to)
 
   -- from one visit to another
   abbrev pub ticks_from_to : Visit → Visit → ℕ
   ticks_from_to from to =
-      ticks_between_of c.contention.interlocking.now c.most c.bound.now (visit_of from) (visit_of to)
+      ticks_between_of c.interlocking.now c.most c.bound.now (visit_of from) (visit_of to)
 
   -- these are too many
   abbrev pub passes_from_to : Visit → Visit → Bool
-  passes_from_to from to = passes_of c.contention.interlocking.now c.most c.bound.now (visit_of from) (visit_of to)
+  passes_from_to from to = passes_of c.interlocking.now c.most c.bound.now (visit_of from) (visit_of to)
 
   -- its cone makes the visit at this tick
   abbrev pub cone_makes : ℕ → Visit → Bool
-  cone_makes tick from = cone_shows_of c.contention.interlocking.now c.bound.now tick (visit_of from)
+  cone_makes tick from = cone_shows_of c.interlocking.now c.bound.now tick (visit_of from)
 
   -- by an origin the ticks are too many
   abbrev pub fails_by : Origin → Bool
-  fails_by o = shows_by c.contention.interlocking.now c.bound.now o
+  fails_by o = shows_by c.interlocking.now c.bound.now o

@@ -12,7 +12,7 @@ ghost use Rattle.bound_ticks.specs.Claims.{from_of, made_at, shows_by, to_of};
 ghost use Rattle.leg_targets.specs.Visits.{origin_of, visit_of};
 ghost use Rattle.bound_ticks.specs.Rides.{takes_too_long, ticks_until, ticks_from_to, passes_from_to, fails_by};
 ghost use Rattle.bound_ticks.specs.Rides.{cone_makes};
-ghost use Rattle.cone_form.specs.Contentions.{over};
+ghost use Rattle.interlocking.specs.Plans.{on};
 
 use crate::ahead::Between;
 use crate::chain::Chain;
@@ -20,9 +20,9 @@ use crate::claim::Claim;
 use crate::requirement::{is_too_late, is_too_long, visit_from, visit_to};
 use crate::stretches::{MOST_LOOKS, stretches_of, ticks_followed};
 use bound_spec::{Bound, Origin};
-use cone_form::Contention;
 use cone_run::visit_in_run;
 use cone_spec::Cone;
+use interlocking::Interlocking;
 use leg_targets::Visit;
 use std::alloc::{AllocError, Global};
 
@@ -33,20 +33,20 @@ use std::alloc::{AllocError, Global};
 /// Want of memory alone.
 pub fn shows_failure(
     alloc: Global,
-    contention: &Contention,
+    interlocking: &Interlocking,
     bound: &Bound,
 ) -> Result<bool, AllocError>
-    requires names { over contention.now names_design bound.now ≡ true }
-    ensures { IfOk result (λ b. b ≡ over contention.now shows_failure bound.now) }
+    requires names { on interlocking.now names_design bound.now ≡ true }
+    ensures { IfOk result (λ b. b ≡ on interlocking.now shows_failure bound.now) }
 {
-    let stretches = stretches_of(alloc, contention.interlocking, bound.legs.as_slice())?;
+    let stretches = stretches_of(alloc, interlocking, bound.legs.as_slice())?;
     if stretches > MOST_LOOKS {
         return Ok(false);
     }
     let claim = Claim {
-        contention: *contention,
+        interlocking,
         bound,
-        most: ticks_followed(contention.interlocking, stretches),
+        most: ticks_followed(interlocking, stretches),
     };
     claim.origin_shows(alloc)
 }
@@ -64,35 +64,35 @@ fn is_made_at(tick: u64, made: Option<u64>) -> bool
 impl Claim<'_> {
     /// The visit from which the ticks are counted.
     fn from(&self) -> Option<Visit>
-        ensures visit { origin_of result ≡ from_of self.now.contention.interlocking.now self.now.bound.now }
-        ensures train { ForSome result (λ v. IsTrain self.now.contention.interlocking.now.design.station v.train) }
+        ensures visit { origin_of result ≡ from_of self.now.interlocking.now self.now.bound.now }
+        ensures train { ForSome result (λ v. IsTrain self.now.interlocking.now.design.station v.train) }
     {
-        visit_from(self.contention.interlocking, self.bound.requirement)
+        visit_from(self.interlocking, self.bound.requirement)
     }
 
     /// The visit at which they end.
     fn to(&self) -> Option<Visit>
-        ensures visit { origin_of result ≡ to_of self.now.contention.interlocking.now self.now.bound.now }
-        ensures train { ForSome result (λ v. IsTrain self.now.contention.interlocking.now.design.station v.train) }
+        ensures visit { origin_of result ≡ to_of self.now.interlocking.now self.now.bound.now }
+        ensures train { ForSome result (λ v. IsTrain self.now.interlocking.now.design.station v.train) }
     {
-        visit_to(self.contention.interlocking, self.bound.requirement)
+        visit_to(self.interlocking, self.bound.requirement)
     }
 
     /// Whether so many ticks between the visits are too many.
     fn is_too_long(&self, ticks: u64) -> bool
         ensures { result ≡ takes_too_long self.now ticks }
     {
-        is_too_long(self.contention.interlocking, self.bound.requirement, ticks)
+        is_too_long(self.interlocking, self.bound.requirement, ticks)
     }
 
     /// The least ticks from the grant of the first command.
     fn ticks_to(&self, alloc: Global, to: Option<Visit>) -> Result<u64, AllocError>
-        requires { ForSome to (λ v. IsTrain self.now.contention.interlocking.now.design.station v.train) }
+        requires { ForSome to (λ v. IsTrain self.now.interlocking.now.design.station v.train) }
         ensures ticks { IfOk result (λ n. n ≡ ticks_until self.now to) }
         ensures at_most_5529664 { IfOk result (λ n. n ≤ 5529664) }
     {
         let chain = Chain {
-            interlocking: self.contention.interlocking,
+            interlocking: self.interlocking,
             most: self.most,
             to,
         };
@@ -101,12 +101,12 @@ impl Claim<'_> {
 
     /// The least ticks from one visit to another.
     fn ticks_between(&self, alloc: Global, from: Visit, to: Visit) -> Result<u64, AllocError>
-        requires from { IsTrain self.now.contention.interlocking.now.design.station from.train }
-        requires to { IsTrain self.now.contention.interlocking.now.design.station to.train }
+        requires from { IsTrain self.now.interlocking.now.design.station from.train }
+        requires to { IsTrain self.now.interlocking.now.design.station to.train }
         ensures { IfOk result (λ n. n ≡ ticks_from_to self.now from to) }
     {
         let chain = Chain {
-            interlocking: self.contention.interlocking,
+            interlocking: self.interlocking,
             most: self.most,
             to: Some(to),
         };
@@ -115,15 +115,15 @@ impl Claim<'_> {
 
     /// Whether the least ticks from the one visit to the other are too many.
     fn passes_between(&self, alloc: Global, from: Visit, to: Visit) -> Result<bool, AllocError>
-        requires from { IsTrain self.now.contention.interlocking.now.design.station from.train }
-        requires to { IsTrain self.now.contention.interlocking.now.design.station to.train }
+        requires from { IsTrain self.now.interlocking.now.design.station from.train }
+        requires to { IsTrain self.now.interlocking.now.design.station to.train }
         ensures { IfOk result (λ b. b ≡ passes_from_to self.now from to) }
     {
         if from.number <= 1 {
             return Ok(self.is_too_long(self.ticks_to(alloc, Some(to))?));
         }
         let between = Between {
-            interlocking: self.contention.interlocking,
+            interlocking: self.interlocking,
             from,
             to,
         };
@@ -136,7 +136,7 @@ impl Claim<'_> {
     /// Whether it is shown by the ticks between the visits.
     fn by_visit(&self, alloc: Global) -> Result<bool, AllocError>
         ensures { IfOk result (λ b. b
-            ≡ shows_by self.now.contention.interlocking.now self.now.bound.now origin.Visit) }
+            ≡ shows_by self.now.interlocking.now self.now.bound.now origin.Visit) }
     {
         let Some(from) = self.from() else {
             return Ok(false);
@@ -161,36 +161,36 @@ impl Claim<'_> {
     /// Whether it is shown by the ticks of the run.
     fn by_start(&self, alloc: Global) -> Result<bool, AllocError>
         ensures { IfOk result (λ b. b
-            ≡ shows_by self.now.contention.interlocking.now self.now.bound.now origin.Start) }
+            ≡ shows_by self.now.interlocking.now self.now.bound.now origin.Start) }
     {
         if self.from().is_some() {
             return Ok(false);
         }
         let ticks = self.ticks_to(alloc, self.to())?;
-        Ok(self.contention.interlocking.design.horizon() < 1 + ticks)
+        Ok(self.interlocking.design.horizon() < 1 + ticks)
     }
 }
 
-impl<'a> Claim<'a> {
+impl Claim<'_> {
     /// Whether the cone makes the visit at this tick.
     fn cone_shows(
         &self,
         alloc: Global,
         tick: u64,
-        cone: &'a Cone,
+        cone: &Cone,
         from: Visit,
     ) -> Result<bool, AllocError>
         requires origin { self.now.bound.now.origin ≡ origin.Cone tick cone.now }
-        requires from { IsTrain self.now.contention.interlocking.now.design.station from.train }
-        requires visit { from_of self.now.contention.interlocking.now self.now.bound.now ≡ Some (visit_of from) }
+        requires from { IsTrain self.now.interlocking.now.design.station from.train }
+        requires visit { from_of self.now.interlocking.now self.now.bound.now ≡ Some (visit_of from) }
         ensures { IfOk result (λ b. b ≡ cone_makes self.now tick from) }
     {
-        let made = visit_in_run(alloc, &self.contention, cone, from.train, from.number)?;
+        let made = visit_in_run(alloc, self.interlocking, cone, from.train, from.number)?;
         Ok(is_made_at(tick, made))
     }
 
     /// Whether it is shown where the first visit is made at a tick in the run of a cone.
-    fn by_cone(&self, alloc: Global, tick: u64, cone: &'a Cone) -> Result<bool, AllocError>
+    fn by_cone(&self, alloc: Global, tick: u64, cone: &Cone) -> Result<bool, AllocError>
         requires { self.now.bound.now.origin ≡ origin.Cone tick cone.now }
         ensures { IfOk result (λ b. b ≡ fails_by self.now (origin.Cone tick cone.now)) }
     {
@@ -201,12 +201,7 @@ impl<'a> Claim<'a> {
             return Ok(false);
         }
         let ticks = self.ticks_to(alloc, self.to())?;
-        Ok(is_too_late(
-            self.contention.interlocking,
-            self.bound.requirement,
-            tick,
-            1 + ticks,
-        ))
+        Ok(is_too_late(self.interlocking, self.bound.requirement, tick, 1 + ticks))
     }
 
     /// Whether it is shown by its origin.

@@ -9,6 +9,8 @@ pub enum BaseKind {
     Sorted,
     /// Those, and that no command could be given a step earlier.
     Normal,
+    /// The sorted ones, with the variables of commands that aren't live taken for false.
+    Live,
 }
 
 /// Whether designs of a version have a plan of at most so many steps, asked by the clauses of a base.

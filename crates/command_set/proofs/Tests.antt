@@ -1,5 +1,5 @@
 -- Sets of commands and tests of them are one.
-use Rattle.std.proofs.Common.{◌≡◌, ℕ, ◌≤◌, ◌<◌, ◌⊎◌, inl, inr, Bool, true, ◌&&◌, List, [], map, filter, flat_map, length, sym, ap, ap₂, subst, ◌∙◌, arith, refl, ◌+◌, ◌*◌, not, ◌||◌, ◌∷◌}
+use Rattle.std.proofs.Common.{◌≡◌, ℕ, ◌≤◌, ◌<◌, ◌⊎◌, inl, inr, Bool, true, ◌&&◌, if◌then◌else◌, Option, Some, None, List, [], map, filter, flat_map, length, sym, ap, ap₂, subst, ◌∙◌, arith, refl, ◌+◌, ◌*◌, not, ◌||◌, ◌∷◌}
 use Rattle.std.specs.List.{list_any}
 use Rattle.sat_clause.specs.declared.lit.Lit.{Lit}
 use Rattle.rail_base.specs.declared.station.Station.{Station}
@@ -14,11 +14,13 @@ use Rattle.rail_base.specs.Stations.{trains}
 use Rattle.rail_base.proofs.Lists.{in_count, in_count_back, in_flat_map, in_map, in_filter_back, in_flat_map_back, in_map_back}
 use Rattle.rail_base.proofs.Members.{and_both, below_or_not, false_unless, in_filter, list_any_from, list_any_gives, same_bool}
 use Rattle.rail_spec.specs.Plans.{all_commands, commands_of, contend, is_command, route_numbers, routes_given}
+use Rattle.clause_spec.specs.Clauses.{Clause}
 use Rattle.clause_spec.specs.Variables.{Variable, Given, Before, By, is_pair, pairs, pairs_before}
+use Rattle.clause_spec.proofs.Families.{KnownAll}
 use Rattle.clause_spec.proofs.Lists.{Distinct, distinct_count, distinct_filter, distinct_flat_map, distinct_map}
 use Rattle.clause_spec.proofs.Numbers.{Known}
 use Rattle.clause_spec.proofs.Steps.{is_command_same, is_command_self}
-use Rattle.live_clause_spec.specs.Clauses.{denies_dead, sorted_clauses, without_dead}
+use Rattle.live_clause_spec.specs.Clauses.{denies_dead, left_of, sorted_clauses, without_dead}
 use Rattle.live_clause_spec.specs.Listed.{is_live_for, live_routes}
 use Rattle.live_clause_spec.specs.Variables.{both_live, is_dead, live_commands, live_number, live_numbered, live_pairs}
 use Rattle.live_clause_spec.proofs.Sorted.{sorted_known}
@@ -70,7 +72,7 @@ any_alike : {X : Type 0} (test other : X → Bool) (xs : List X) → ((x : X) �
 any_alike test other [] h = refl
 any_alike test other (x ∷ xs) h = ap₂ (λ a b. a || b) (h x (inl refl)) (any_alike test other xs (λ y m. h y (inr m)))
 
-module _ (live : Command → Bool) (d : Station) (routes : List Route) (n : ℕ) (some : 1 ≤ n) where
+module _ (live : Command → Bool) (d : Station) (routes : List Route) (n : ℕ) where
   abbrev other : Command → Bool
   other = is_among (live_commands live d routes)
 
@@ -87,17 +89,30 @@ module _ (live : Command → Bool) (d : Station) (routes : List Route) (n : ℕ)
   number_alike : (v : Variable) → live_number other d routes n v ≡ live_number live d routes n v
   number_alike v = number_is other v ∙ (ap₂ (λ cs ps. number_by cs ps n v) (are_sets live d routes) (pairs_alike live d routes) ∙ sym (number_is live v))
 
-  pub bases_alike : BasesAreAlike live d routes n
-  bases_alike =
+  written_alike : (cl : Clause) → map (live_numbered other d routes n) cl ≡ map (live_numbered live d routes n) cl
+  written_alike cl = map_alike (live_numbered other d routes n) (live_numbered live d routes n) cl (λ l k. ap (λ v. let x : Lit = record { var = v; negated = l.negated } in x) (number_alike l.variable))
+
+  module _ (cl : Clause) (known : KnownAll d routes n cl) where
+    denies_alike : denies_dead other cl ≡ denies_dead live cl
+    denies_alike = any_alike (λ l. l.negated && is_dead other l.variable) (λ l. l.negated && is_dead live l.variable) cl (λ l k. ap (λ b. l.negated && b) (dead_alike l.variable (known l k)))
+
+    without_alike : without_dead other cl ≡ without_dead live cl
+    without_alike = filter_alike (λ l. not (is_dead other l.variable)) (λ l. not (is_dead live l.variable)) cl (λ l k. ap not (dead_alike l.variable (known l k)))
+
+    -- what is left of a clause is the same by both
+    pub left_alike : left_of other d routes n cl ≡ left_of live d routes n cl
+    left_alike =
+        ap₂ (λ b c. if b then None else Some (map (live_numbered other d routes n) c)) denies_alike without_alike
+        ∙ ap (λ c. if denies_dead live cl then None else Some c) (written_alike (without_dead live cl))
+
+  pub bases_alike : 1 ≤ n → BasesAreAlike live d routes n
+  bases_alike some =
       ap (λ cls. map (map (live_numbered other d routes n)) (map (without_dead other) cls))
-      (filter_alike (λ cl. not (denies_dead other cl)) (λ cl. not (denies_dead live cl)) (sorted_clauses d routes n)
-      (λ cl m. ap not (any_alike (λ l. l.negated && is_dead other l.variable) (λ l. l.negated && is_dead live l.variable) cl (λ l k. ap (λ b. l.negated && b) (dead_alike l.variable (sorted_known d routes n some cl m l k))))))
+      (filter_alike (λ cl. not (denies_dead other cl)) (λ cl. not (denies_dead live cl)) (sorted_clauses d routes n) (λ cl m. ap not (denies_alike cl (sorted_known d routes n some cl m))))
       ∙ (ap (map (map (live_numbered other d routes n)))
-      (map_alike (without_dead other) (without_dead live) (filter (λ cl. not (denies_dead live cl)) (sorted_clauses d routes n)) (λ cl m.
-      let known = sorted_known d routes n some cl (in_filter_back (λ x. not (denies_dead live x)) (sorted_clauses d routes n) cl m).0 in
-      filter_alike (λ l. not (is_dead other l.variable)) (λ l. not (is_dead live l.variable)) cl (λ l k. ap not (dead_alike l.variable (known l k)))))
-      ∙ map_alike (map (live_numbered other d routes n)) (map (live_numbered live d routes n)) (map (without_dead live) (filter (λ cl. not (denies_dead live cl)) (sorted_clauses d routes n)))
-      (λ cl m. map_alike (live_numbered other d routes n) (live_numbered live d routes n) cl (λ l k. ap (λ v. let x : Lit = record { var = v; negated = l.negated } in x) (number_alike l.variable))))
+      (map_alike (without_dead other) (without_dead live) (filter (λ cl. not (denies_dead live cl)) (sorted_clauses d routes n))
+      (λ cl m. without_alike cl (sorted_known d routes n some cl (in_filter_back (λ x. not (denies_dead live x)) (sorted_clauses d routes n) cl m).0)))
+      ∙ map_alike (map (live_numbered other d routes n)) (map (live_numbered live d routes n)) (map (without_dead live) (filter (λ cl. not (denies_dead live cl)) (sorted_clauses d routes n))) (λ cl m. written_alike cl))
 
 -- ---- all commands
 

@@ -15,8 +15,7 @@ use Rattle.rail_base.proofs.Lists.{list_all_from}
 use Rattle.cone_clause.specs.Laws.{NoneByCones}
 use Rattle.clause_spec.specs.Models.{is_so, model_of}
 use Rattle.clause_spec.proofs.Steps.{has_gives, step_high}
-use Rattle.clause_spec.proofs.Places.{pair_from}
-use Rattle.clause_spec.proofs.Numbers.{Known, model_says}
+use Rattle.clause_spec.proofs.Numbers.{model_says}
 use Rattle.clause_spec.proofs.Theorems.{feasible_plans_are_models}
 use Rattle.cone_spec.specs.declared.Cone.{Cone}
 use Rattle.cone_spec.specs.Validity.{in_design, is_valid_cone}
@@ -24,7 +23,7 @@ use Rattle.cone_spec.specs.Clauses.{Fact, Used, Before, Literal, holds_of, is_tr
 use Rattle.cone_spec.proofs.Failing.{IsTimed}
 use Rattle.cone_spec.proofs.Refusing.{true_of_feasible, holds_of_valid}
 use Rattle.cone_clause.specs.Numbered.{variable_of, lit_of, numbered_clause}
-use Rattle.cone_clause.proofs.Known.{IsKnown, all_known}
+use Rattle.cone_clause.proofs.Known.{IsKnown, all_known, fact_known}
 use Rattle.clause_spec.proofs.Shown.{short_enough, more_feasible}
 
 -- ---- plans of k steps are plans of more
@@ -41,12 +40,8 @@ module _ (d : Station) (routes : List Route) (n : ℕ) (some : 1 ≤ n) (plan : 
       go true e = let high = step_high plan c (has_gives (commands plan) c e) in let w = within in le-leb _ _ (omega arith)
   so_alike (Before e c) = refl
 
-  known_number : (f : Fact) → IsKnown d routes f → Known d routes n (variable_of n f)
-  known_number (Used c) m = (m, some, (omega arith))
-  known_number (Before e c) m = pair_from d routes e c m.0 m.1 m.2
-
   literal_alike : (l : Literal) → IsKnown d routes l.fact → lit_holds (model_of d routes n plan) (lit_of d routes n l) ≡ is_true_of plan l
-  literal_alike l m = ap (λ b. cond l.negated (not b) b) (model_says d routes n plan (variable_of n l.fact) (known_number l.fact m) ∙ so_alike l.fact)
+  literal_alike l m = ap (λ b. cond l.negated (not b) b) (model_says d routes n plan (variable_of n l.fact) (fact_known d routes n some l.fact m) ∙ so_alike l.fact)
 
   one_true : (a b : Bool) → (a || not b) ≡ not (not a && b)
   one_true true b = refl

@@ -25,7 +25,7 @@ abbrev pub is_literal_before : Literal → Literal → Bool
 is_literal_before l m = is_fact_before l.fact m.fact
 
 module _ (d : Station) (routes : List Route) (k : Cone) where
-  one_used : (c : Command) (l : Literal) → In l (used_literals d routes k c) → l.fact ≡ Used c
+  pub one_used : (c : Command) (l : Literal) → In l (used_literals d routes k c) → l.fact ≡ Used c
   one_used c l m = go (is_named k c) (is_closed d routes k c.train && goes_further (map (route_at routes) (named k c.train).path) (route_at routes c.route)) m
     where
       go : (a b : Bool) → In l (if a then record { fact = Used c; negated = true } ∷ [] else if b then record { fact = Used c; negated = false } ∷ [] else []) → l.fact ≡ Used c
@@ -35,7 +35,7 @@ module _ (d : Station) (routes : List Route) (k : Cone) where
       go false true (inr e) = absurd e
       go false false e = absurd e
 
-  one_before : (e c : Command) (l : Literal) → In l (before_literals d routes k e c) → l.fact ≡ Before e c
+  pub one_before : (e c : Command) (l : Literal) → In l (before_literals d routes k e c) → l.fact ≡ Before e c
   one_before e c l m = go (has_pair k e c) (is_free k c && contend routes e c) m
     where
       go : (a b : Bool) → In l (if a then record { fact = Before e c; negated = true } ∷ [] else if b then record { fact = Before e c; negated = false } ∷ [] else []) → l.fact ≡ Before e c

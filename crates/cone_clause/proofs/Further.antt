@@ -6,7 +6,7 @@ use Rattle.rail_base.specs.Routes.{route_at}
 use Rattle.rail_base.specs.declared.station.Station.{Station}
 use Rattle.rail_base.specs.declared.station.TrainNo.{TrainNo}
 use Rattle.rail_base.proofs.Members.{and_left, and_right}
-use Rattle.rail_spec.specs.Plans.{is_start, goes_on, commands_of, route_numbers}
+use Rattle.rail_spec.specs.Plans.{is_start, goes_on}
 use Rattle.cone_spec.specs.declared.Cone.{Cone}
 use Rattle.cone_spec.specs.Cones.{named, has_route}
 use Rattle.cone_spec.specs.Clauses.{Used, Literal, goes_further, is_closed, used_literals}
@@ -23,8 +23,8 @@ last_goes f q (x ∷ y ∷ ys) other h =
     x' = f x
 
 -- nothing is said of a train without a path
-pub nothing_said : (d : Station) (routes : List Route) (k : Cone) (t : TrainNo) → (named k t).path ≡ [] → flat_map (used_literals d routes k) (commands_of routes t) ≡ []
-nothing_said d routes k t none = each (route_numbers routes)
+pub nothing_said : (d : Station) (routes : List Route) (k : Cone) (t : TrainNo) → (named k t).path ≡ [] → (rs : List RouteNo) → flat_map (used_literals d routes k) (map (λ r. record { train = t; route = r }) rs) ≡ []
+nothing_said d routes k t none = each
   where
     one : (r : RouteNo) → used_literals d routes k (record { train = t; route = r }) ≡ []
     one r = go (named k t).path none (is_closed d routes k t)

@@ -1,16 +1,21 @@
 -- The facts in the clause of a cone are ones for which the base has a variable.
-use Rattle.std.proofs.Common.{◌≡◌, ◌⊎◌, inl, inr, Bool, true, false, not, ◌&&◌, if◌then◌else◌, List, [], ◌∷◌, map, flat_map, refl, ap, subst}
+use Rattle.std.proofs.Common.{◌≡◌, ℕ, ◌≤◌, ◌⊎◌, inl, inr, Bool, true, false, not, ◌&&◌, if◌then◌else◌, List, [], ◌∷◌, map, flat_map, refl, ap, subst, ◌∙◌, le_refl}
 use Rattle.rail_base.specs.declared.station.Station.{Station}
 use Rattle.rail_base.specs.declared.route.Route.{Route}
 use Rattle.rail_base.specs.declared.plan.Command.{Command}
 use Rattle.cone_spec.specs.declared.Cone.{Cone}
 use Rattle.rail_spec.specs.Plans.{route_at, is_train, share, contend, all_commands}
 use Rattle.rail_base.proofs.Members.{In, and_right, and_both}
-use Rattle.rail_base.proofs.Lists.{in_append, in_flat_map_back}
+use Rattle.rail_base.proofs.Lists.{in_append, in_flat_map_back, in_map_back}
 use Rattle.cone_spec.specs.Cones.{named, is_named, has_pair, is_free}
 use Rattle.cone_spec.specs.Validity.{in_design}
 use Rattle.cone_spec.specs.Clauses.{Fact, Used, Before, Literal, is_closed, goes_further, used_literals, before_literals, clause_of_cone}
 use Rattle.cone_spec.proofs.Naming.{of_design, listed_is}
+use Rattle.clause_spec.specs.Variables.{By, Literal as BaseLiteral}
+use Rattle.clause_spec.proofs.Families.{KnownAll}
+use Rattle.clause_spec.proofs.Numbers.{Known}
+use Rattle.clause_spec.proofs.Places.{pair_from}
+use Rattle.cone_clause.specs.Numbered.{base_clause, base_literal, variable_of}
 
 -- a command of the design, or two that contend
 abbrev pub IsKnown : Station → List Route → Fact → Type 0
@@ -50,3 +55,25 @@ module _ (d : Station) (routes : List Route) (k : Cone) (fits : in_design d rout
           let a = in_flat_map_back (λ e. flat_map (before_literals d routes k e) (all_commands d routes)) (all_commands d routes) l m in
           let b = in_flat_map_back (before_literals d routes k a.0) (all_commands d routes) l a.2 in
           before_known a.0 b.0 l a.1 b.1 b.2
+
+-- ---- over the variables of the base
+
+module _ (d : Station) (routes : List Route) (n : ℕ) (some : 1 ≤ n) where
+  pub fact_known : (f : Fact) → IsKnown d routes f → Known d routes n (variable_of n f)
+  fact_known (Used c) m = (m, some, le_refl n)
+  fact_known (Before e c) m = pair_from d routes e c m.0 m.1 m.2
+
+  pub known_cone : (k : Cone) → in_design d routes k ≡ true → KnownAll d routes n (base_clause d routes n k)
+  known_cone k fits l m =
+      let f = in_map_back (base_literal n) (clause_of_cone d routes k) l m in
+      subst (λ (x : BaseLiteral). Known d routes n x.variable) f.2 (fact_known f.0.fact (all_known d routes k fits f.0 f.1))
+
+-- no literal says that all is given by a step
+pub not_by : (n i : ℕ) (f : Fact) → variable_of n f ≡ By i → ⊥
+not_by n i (Used c) e = cc
+not_by n i (Before a b) e = cc
+
+pub none_by : (d : Station) (routes : List Route) (n : ℕ) (k : Cone) (l : BaseLiteral) → In l (base_clause d routes n k) → (i : ℕ) → l.variable ≡ By i → ⊥
+none_by d routes n k l m i e =
+    let f = in_map_back (base_literal n) (clause_of_cone d routes k) l m in
+    not_by n i f.0.fact (ap (λ (x : BaseLiteral). x.variable) f.2 ∙ e)

@@ -12,19 +12,17 @@ use Rattle.rail_base.specs.declared.plan.Command.{Command}
 use Rattle.rail_base.proofs.Members.{In, in_filter, list_any_from, list_any_gives, false_unless, below_or_not, same_bool}
 use Rattle.rail_base.proofs.Lists.{in_filter_back, in_map, in_map_back}
 use Rattle.rail_spec.specs.Plans.{is_command, contend}
-use Rattle.clause_spec.specs.Variables.{pairs}
+use Rattle.live_clause_spec.specs.Variables.{live_commands, live_pairs}
 use Rattle.cone_spec.specs.declared.Cone.{Cone}
 use Rattle.cone_spec.specs.declared.ConeTrain.{ConeTrain}
 use Rattle.cone_spec.specs.Cones.{unnamed, first_named, free_path, is_free, has_pair, is_pair}
-use Rattle.cone_spec.specs.Validity.{in_design}
 use Rattle.cone_spec.specs.Clauses.{Before, Literal, before_literals}
 use Rattle.cone_spec.proofs.Naming.{IsNamed, named_or_not, has_route_in, in_has_route}
 use Rattle.cone_spec.proofs.Saying.{is_command_self}
 use Rattle.cone_form.proofs.Placed.{to_place, is_pair_same, pair_itself}
 use Rattle.sat_clause.specs.declared.lit.Lit.{Lit}
-use Rattle.rail_spec.specs.Plans.{all_commands}
-use Rattle.cone_clause.specs.Numbered.{lit_of}
-use Rattle.cone_clause.proofs.Walked.{walked, pair_step}
+use Rattle.cone_clause.specs.Numbered.{left_lit}
+use Rattle.cone_clause.proofs.Walked.{pair_step}
 use Rattle.cone_clause.specs.Places.{Adds, ArePlacesOfPairs, AreSaid, IsPlaceOf, IsPlaceBefore, IsPlaceBeforeFree, IsSaid}
 use Rattle.cone_form.proofs.Walks.{drop_end}
 
@@ -176,19 +174,19 @@ listed_at ps k places are i other inside = same_bool (list_any (λ j. j == i) pl
         let m : In q k.pairs = subst (λ (p : Command × Command). In p k.pairs) (is_pair_same q.0 q.1 f.0 f.2) f.1 in
         list_any_from (λ j. j == i) places i (are.all i (q, m, here)) (eq-eqb i i refl)
 
-module _ (d : Station) (routes : List Route) (k : Cone) (fits : in_design d routes k ≡ true) where
-  abbrev said_of : Command × Command → List Literal
+module _ (live : Command → Bool) (d : Station) (routes : List Route) (k : Cone) where
+  abbrev pub said_of : Command × Command → List Literal
   said_of p = before_literals d routes k p.0 p.1
 
   -- nothing is said of a place that is not one of those
-  quiet_at : (i : ℕ) (other : Command × Command) → i < length (pairs d routes) → (IsSaid (pairs d routes) k i → ⊥) → said_of (get_or (pairs d routes) i other) ≡ []
+  quiet_at : (i : ℕ) (other : Command × Command) → i < length (live_pairs live d routes) → (IsSaid (live_pairs live d routes) k i → ⊥) → said_of (get_or (live_pairs live d routes) i other) ≡ []
   quiet_at i other l none = go (has_pair k p.0 p.1) (is_free k p.1) (false_unless (has_pair k p.0 p.1) (λ t. none (p, at, inl t))) (false_unless (is_free k p.1) (λ t. none (p, at, inr t)))
     where
       p : Command × Command
-      p = get_or (pairs d routes) i other
+      p = get_or (live_pairs live d routes) i other
 
-      at : slice_get (pairs d routes) i ≡ Some p
-      at = slice_get-get_or (pairs d routes) i other l
+      at : slice_get (live_pairs live d routes) i ≡ Some p
+      at = slice_get-get_or (live_pairs live d routes) i other l
 
       go : (a b : Bool) → a ≡ false → b ≡ false → ◌≡◌ {A = List Literal} (if a then record { fact = Before p.0 p.1; negated = true } ∷ [] else if b && contend routes p.0 p.1 then record { fact = Before p.0 p.1; negated = false } ∷ [] else []) []
       go true b e f = absurd (true≢false e)
@@ -196,34 +194,34 @@ module _ (d : Station) (routes : List Route) (k : Cone) (fits : in_design d rout
       go false false e f = refl
 
   -- nothing is said of the pairs between two places with no such place between them
-  quiet : (a b : ℕ) (other : Command × Command) → a ≤ b → b ≤ length (pairs d routes) → ((i : ℕ) → a ≤ i → i < b → IsSaid (pairs d routes) k i → ⊥) → flat_map said_of (take b (pairs d routes)) ≡ flat_map said_of (take a (pairs d routes))
-  quiet a zero other l m none = let e : zero ≡ a = omega arith in ap (λ n. flat_map said_of (take n (pairs d routes))) e
+  quiet : (a b : ℕ) (other : Command × Command) → a ≤ b → b ≤ length (live_pairs live d routes) → ((i : ℕ) → a ≤ i → i < b → IsSaid (live_pairs live d routes) k i → ⊥) → flat_map said_of (take b (live_pairs live d routes)) ≡ flat_map said_of (take a (live_pairs live d routes))
+  quiet a zero other l m none = let e : zero ≡ a = omega arith in ap (λ n. flat_map said_of (take n (live_pairs live d routes))) e
   quiet a (suc b) other l m none = go (λ f. quiet a b other f (omega arith) (λ i x y. none i x (omega arith))) (below_or_not b a)
     where
-      go : (a ≤ b → flat_map said_of (take b (pairs d routes)) ≡ flat_map said_of (take a (pairs d routes))) → (b < a) ⊎ (a ≤ b) → flat_map said_of (take (suc b) (pairs d routes)) ≡ flat_map said_of (take a (pairs d routes))
-      go before (inl f) = let e : suc b ≡ a = omega arith in ap (λ n. flat_map said_of (take n (pairs d routes))) e
+      go : (a ≤ b → flat_map said_of (take b (live_pairs live d routes)) ≡ flat_map said_of (take a (live_pairs live d routes))) → (b < a) ⊎ (a ≤ b) → flat_map said_of (take (suc b) (live_pairs live d routes)) ≡ flat_map said_of (take a (live_pairs live d routes))
+      go before (inl f) = let e : suc b ≡ a = omega arith in ap (λ n. flat_map said_of (take n (live_pairs live d routes))) e
       go before (inr f) =
           let on : suc b ≡ b + 1 = omega arith in
-          let last : said_of (get_or (pairs d routes) b other) ++ [] ≡ [] = ap (λ ls. ls ++ []) (quiet_at b other (omega arith) (none b f (omega arith))) in
-          ap (λ n. flat_map said_of (take n (pairs d routes))) on
-          ∙ (ap (flat_map said_of) (take_more (pairs d routes) b other (omega arith))
-          ∙ (flat_map-append said_of (take b (pairs d routes)) (get_or (pairs d routes) b other ∷ [])
-          ∙ (ap (λ ls. flat_map said_of (take b (pairs d routes)) ++ ls) last
-          ∙ (append-nil (flat_map said_of (take b (pairs d routes))) ∙ before f))))
+          let last : said_of (get_or (live_pairs live d routes) b other) ++ [] ≡ [] = ap (λ ls. ls ++ []) (quiet_at b other (omega arith) (none b f (omega arith))) in
+          ap (λ n. flat_map said_of (take n (live_pairs live d routes))) on
+          ∙ (ap (flat_map said_of) (take_more (live_pairs live d routes) b other (omega arith))
+          ∙ (flat_map-append said_of (take b (live_pairs live d routes)) (get_or (live_pairs live d routes) b other ∷ [])
+          ∙ (ap (λ ls. flat_map said_of (take b (live_pairs live d routes)) ++ ls) last
+          ∙ (append-nil (flat_map said_of (take b (live_pairs live d routes))) ∙ before f))))
 
   -- the literal of a place of which something is said
-  one_said : (n : ℕ) (i : ℕ) (other : Command × Command) → IsSaid (pairs d routes) k i → (v : ℕ) (negated : Bool) → v ≡ length d.trains * length routes * n + i + 1 → negated ≡ has_pair k (get_or (pairs d routes) i other).0 (get_or (pairs d routes) i other).1
-      → record { var = v; negated = negated } ∷ [] ≡ map (lit_of d routes n) (said_of (get_or (pairs d routes) i other))
-  one_said n i other (p, at, why) v negated is h = pair_step d routes k fits n (pairs d routes) refl i other inside v (Some negated) is (by negated (has_pair k q.0 q.1) (is_free k q.1) h (free_else why))
+  one_said : (n : ℕ) (i : ℕ) (other : Command × Command) → IsSaid (live_pairs live d routes) k i → (v : ℕ) (negated : Bool) → v ≡ length (live_commands live d routes) * n + i + 1 → negated ≡ has_pair k (get_or (live_pairs live d routes) i other).0 (get_or (live_pairs live d routes) i other).1
+      → record { var = v; negated = negated } ∷ [] ≡ map (left_lit live d routes n) (said_of (get_or (live_pairs live d routes) i other))
+  one_said n i other (p, at, why) v negated is h = pair_step live d routes k n i other inside v (Some negated) is (by negated (has_pair k q.0 q.1) (is_free k q.1) h (free_else why))
     where
-      inside : i < length (pairs d routes)
-      inside = place_inside (pairs d routes) i p at
+      inside : i < length (live_pairs live d routes)
+      inside = place_inside (live_pairs live d routes) i p at
 
       q : Command × Command
-      q = get_or (pairs d routes) i other
+      q = get_or (live_pairs live d routes) i other
 
       same : p ≡ q
-      same = some_same (sym at ∙ slice_get-get_or (pairs d routes) i other inside)
+      same = some_same (sym at ∙ slice_get-get_or (live_pairs live d routes) i other inside)
 
       free_else : (has_pair k p.0 p.1 ≡ true) ⊎ (is_free k p.1 ≡ true) → (has_pair k q.0 q.1 ≡ true) ⊎ (is_free k q.1 ≡ true)
       free_else (inl t) = inl (subst (λ (x : Command × Command). has_pair k x.0 x.1 ≡ true) same t)
@@ -238,39 +236,39 @@ module _ (d : Station) (routes : List Route) (k : Cone) (fits : in_design d rout
   module _ (n : ℕ) (old : List Lit) where
     -- the clause says all of the pairs up to a place
     abbrev pub SaysUpTo : List (Command × Command) → ℕ → List Lit → Type 0
-    SaysUpTo ps next now = now ≡ old ++ map (lit_of d routes n) (flat_map said_of (take next ps))
+    SaysUpTo ps next now = now ≡ old ++ map (left_lit live d routes n) (flat_map said_of (take next ps))
 
     abbrev More : List (Command × Command) → Type 0
     More ps = (next i : ℕ) (other : Command × Command) (now new : List Lit) → next ≤ i → IsSaid ps k i → ((j : ℕ) → next ≤ j → j < i → IsSaid ps k j → ⊥)
-        → (v : ℕ) (negated : Bool) → v ≡ length d.trains * length routes * n + i + 1 → negated ≡ has_pair k (get_or ps i other).0 (get_or ps i other).1
+        → (v : ℕ) (negated : Bool) → v ≡ length (live_commands live d routes) * n + i + 1 → negated ≡ has_pair k (get_or ps i other).0 (get_or ps i other).1
         → new ≡ now ++ record { var = v; negated = negated } ∷ [] → SaysUpTo ps next now → SaysUpTo ps (i + 1) new
 
     abbrev Whole : List (Command × Command) → Type 0
     Whole ps = (next : ℕ) (other : Command × Command) (now : List Lit) → next ≤ length ps → ((j : ℕ) → next ≤ j → IsSaid ps k j → ⊥) → SaysUpTo ps next now
-        → now ≡ old ++ map (lit_of d routes n) (flat_map (λ e. flat_map (before_literals d routes k e) (all_commands d routes)) (all_commands d routes))
+        → now ≡ old ++ map (left_lit live d routes n) (flat_map said_of ps)
 
-    more : More (pairs d routes)
+    more : More (live_pairs live d routes)
     more next i other now new l said none v negated is h grown before =
-        let inside : i < length (pairs d routes) = place_inside (pairs d routes) i said.0 said.1 in
-        let p : Command × Command = get_or (pairs d routes) i other in
-        let prefix : List Literal = flat_map said_of (take next (pairs d routes)) in
-        let parts : flat_map said_of (take (i + 1) (pairs d routes)) ≡ prefix ++ said_of p =
-        ap (flat_map said_of) (take_more (pairs d routes) i other inside)
-        ∙ (flat_map-append said_of (take i (pairs d routes)) (p ∷ [])
+        let inside : i < length (live_pairs live d routes) = place_inside (live_pairs live d routes) i said.0 said.1 in
+        let p : Command × Command = get_or (live_pairs live d routes) i other in
+        let prefix : List Literal = flat_map said_of (take next (live_pairs live d routes)) in
+        let parts : flat_map said_of (take (i + 1) (live_pairs live d routes)) ≡ prefix ++ said_of p =
+        ap (flat_map said_of) (take_more (live_pairs live d routes) i other inside)
+        ∙ (flat_map-append said_of (take i (live_pairs live d routes)) (p ∷ [])
         ∙ ap₂ (λ xs ys. xs ++ ys) (quiet next i other l (omega arith) none) (append-nil (said_of p))) in
         grown ∙ (ap₂ (λ xs ys. xs ++ ys) before (one_said n i other said v negated is h)
-        ∙ (append_assoc old (map (lit_of d routes n) prefix) (map (lit_of d routes n) (said_of p))
-        ∙ ap (λ ls. old ++ ls) (sym (ap (map (lit_of d routes n)) parts ∙ map-append (lit_of d routes n) prefix (said_of p)))))
+        ∙ (append_assoc old (map (left_lit live d routes n) prefix) (map (left_lit live d routes n) (said_of p))
+        ∙ ap (λ ls. old ++ ls) (sym (ap (map (left_lit live d routes n)) parts ∙ map-append (left_lit live d routes n) prefix (said_of p)))))
 
-    whole : Whole (pairs d routes)
+    whole : Whole (live_pairs live d routes)
     whole next other now l none before =
-        before ∙ ap (λ ls. old ++ map (lit_of d routes n) ls)
-        (sym (walked d routes k fits ∙ (ap (flat_map said_of) (sym (take_all (length (pairs d routes)) (pairs d routes) (le_refl (length (pairs d routes))))) ∙ quiet next (length (pairs d routes)) other l (le_refl (length (pairs d routes))) (λ j x y. none j x))))
+        before ∙ ap (λ ls. old ++ map (left_lit live d routes n) ls)
+        (sym (ap (flat_map said_of) (sym (take_all (length (live_pairs live d routes)) (live_pairs live d routes) (le_refl (length (live_pairs live d routes))))) ∙ quiet next (length (live_pairs live d routes)) other l (le_refl (length (live_pairs live d routes))) (λ j x y. none j x)))
 
-    pub says_more : (ps : List (Command × Command)) → ps ≡ pairs d routes → More ps
+    pub says_more : (ps : List (Command × Command)) → ps ≡ live_pairs live d routes → More ps
     says_more ps is = subst More (sym is) more
 
-    pub says_all : (ps : List (Command × Command)) → ps ≡ pairs d routes → Whole ps
+    pub says_all : (ps : List (Command × Command)) → ps ≡ live_pairs live d routes → Whole ps
     says_all ps is = subst Whole (sym is) whole
 
 -- ---- what is left of the places

@@ -4,29 +4,30 @@ use Rattle.rail_base.specs.declared.station.Station.{Station}
 use Rattle.rail_base.specs.declared.route.Route.{Route}
 use Rattle.rail_base.specs.declared.plan.Command.{Command}
 use Rattle.rail_spec.specs.Plans.{route_at, contend}
-use Rattle.clause_spec.specs.Variables.{Given, Before as BeforeIn, number_of}
+use Rattle.clause_spec.specs.Variables.{Given, Before as BeforeIn}
+use Rattle.live_clause_spec.specs.Variables.{live_number}
 use Rattle.cone_spec.specs.declared.Cone.{Cone}
 use Rattle.cone_spec.specs.Cones.{named, is_named, has_pair, is_free}
 use Rattle.cone_spec.specs.Clauses.{Fact, Used, Before, is_closed, goes_further, used_literals, before_literals}
-use Rattle.cone_clause.specs.Numbered.{signed, variable_of, lit_of}
+use Rattle.cone_clause.specs.Numbered.{left_lit, signed, variable_of}
 
-module _ (d : Station) (routes : List Route) (n : ℕ) (k : Cone) where
-  by_sign : (f : Fact) (v : ℕ) (a b : Bool) → v ≡ number_of d routes n (variable_of n f)
-      → signed v (if a then Some true else if b then Some false else None) ≡ map (lit_of d routes n) (if a then record { fact = f; negated = true } ∷ [] else if b then record { fact = f; negated = false } ∷ [] else [])
+module _ (live : Command → Bool) (d : Station) (routes : List Route) (n : ℕ) (k : Cone) where
+  by_sign : (f : Fact) (v : ℕ) (a b : Bool) → v ≡ live_number live d routes n (variable_of n f)
+      → signed v (if a then Some true else if b then Some false else None) ≡ map (left_lit live d routes n) (if a then record { fact = f; negated = true } ∷ [] else if b then record { fact = f; negated = false } ∷ [] else [])
   by_sign f v true b e = ap (λ x. record { var = x; negated = true } ∷ []) e
   by_sign f v false true e = ap (λ x. record { var = x; negated = false } ∷ []) e
   by_sign f v false false e = refl
 
   -- what is said of one command
-  pub used_signed : (c : Command) (v : ℕ) (s : Option Bool) → v ≡ number_of d routes n (Given c n)
+  pub used_signed : (c : Command) (v : ℕ) (s : Option Bool) → v ≡ live_number live d routes n (Given c n)
       → s ≡ (if is_named k c then Some true else if is_closed d routes k c.train && goes_further (map (route_at routes) (named k c.train).path) (route_at routes c.route) then Some false else None)
-      → signed v s ≡ map (lit_of d routes n) (used_literals d routes k c)
+      → signed v s ≡ map (left_lit live d routes n) (used_literals d routes k c)
   used_signed c v s e h = ap (signed v) h ∙ by_sign (Used c) v (is_named k c) (is_closed d routes k c.train && goes_further (map (route_at routes) (named k c.train).path) (route_at routes c.route)) e
 
   -- and of the order of two that contend
-  pub before_signed : (e c : Command) (v : ℕ) (s : Option Bool) → contend routes e c ≡ true → v ≡ number_of d routes n (BeforeIn e c)
+  pub before_signed : (e c : Command) (v : ℕ) (s : Option Bool) → contend routes e c ≡ true → v ≡ live_number live d routes n (BeforeIn e c)
       → s ≡ (if has_pair k e c then Some true else if is_free k c then Some false else None)
-      → signed v s ≡ map (lit_of d routes n) (before_literals d routes k e c)
+      → signed v s ≡ map (left_lit live d routes n) (before_literals d routes k e c)
   before_signed e c v s t m h =
       ap (signed v) h ∙ (ap (λ b. signed v (if has_pair k e c then Some true else if b then Some false else None)) (with_it (is_free k c) (contend routes e c) t)
       ∙ by_sign (Before e c) v (has_pair k e c) (is_free k c && contend routes e c) m)

@@ -15,7 +15,7 @@ impl NumberedCone<'_> {
     pub(crate) fn push_before(&self, alloc: Global, clause: &mut Vec<Lit>) -> Result<(), AllocError>
         ensures { OnOk result (clause.new.items ≡ clause.old.items ++ said_of_pairs self.now) }
     {
-        let used = self.used_count();
+        let used = self.contention.given_count(self.steps);
         let listed = self.pair_places(alloc)?;
         let places = self.places_said(alloc)?;
         let mut next = 0;

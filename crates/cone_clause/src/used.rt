@@ -1,12 +1,11 @@
 //! What the clause of a cone says of single commands.
 
-ghost use Rattle.std.specs.Prelude.{◌≡◌, ◌≤◌, ◌++◌, All, OnOk};
+ghost use Rattle.std.specs.Prelude.{◌≡◌, ◌++◌, All, OnOk, true};
 ghost use Rattle.rail_base.specs.Routes.{IsRoute};
-ghost use Rattle.rail_base.specs.Stations.{IsTrain};
 ghost use Rattle.cone_spec.specs.Cones.{named};
 ghost use Rattle.cone_form.specs.Marks.{MarksPath};
-ghost use Rattle.cone_clause.specs.Spoken.{given_count, given_number, used_sign};
-ghost use Rattle.cone_clause.specs.Spoken.{routes_in, said_of_commands, said_of_train, station_of};
+ghost use Rattle.cone_clause.specs.Contentions.{among};
+ghost use Rattle.cone_clause.specs.Spoken.{given_number, routes_in, said_of_commands, said_of_train, used_sign};
 
 use crate::numbered::NumberedCone;
 use crate::onward::{goes_further, is_closed};
@@ -19,16 +18,6 @@ use sat_clause::Lit;
 use std::alloc::{AllocError, Global};
 
 impl NumberedCone<'_> {
-    /// How many variables say that a command is given by a step.
-    pub(crate) fn used_count(&self) -> u32
-        ensures value { result ≡ given_count self.now }
-        ensures bound { result ≤ 65536000 }
-    {
-        let interlocking = self.contention.interlocking;
-        let trains = interlocking.design.station.trains.len() as u32;
-        trains * interlocking.routes.len() as u32 * self.steps.count
-    }
-
     /// Puts what the clause says of all commands at its end, by train and then by route. It says nothing of a train
     /// without a path.
     pub(crate) fn push_used(&self, alloc: Global, clause: &mut Vec<Lit>) -> Result<(), AllocError>
@@ -44,15 +33,14 @@ impl NumberedCone<'_> {
         Ok(())
     }
 
-    /// The number of the variable that a command is given by the last step.
+    /// The number of the variable that a command that the base speaks of is given by the last step.
     fn used_number(&self, command: Command) -> u32
-        requires train { IsTrain (station_of self.now) command.train }
-        requires route { IsRoute (routes_in self.now) command.route }
+        requires { among self.now.contention command ≡ true }
         ensures { result ≡ given_number self.now command }
     {
-        let routes = self.contention.interlocking.routes.len() as u32;
-        let steps = self.steps.count;
-        ((command.train.0 - 1) * routes + (command.route.0 - 1)) * steps + steps
+        self.contention
+            .used_number(self.steps, command)
+            .unwrap_or(0)
     }
 
     /// Puts what the clause says of the commands of a train with a path at its end.
@@ -62,18 +50,20 @@ impl NumberedCone<'_> {
         clause: &mut Vec<Lit>,
         train: TrainNo,
     ) -> Result<(), AllocError>
-        requires path { All (IsRoute (routes_in self.now)) (named self.now.cone.now train).path }
-        requires train { IsTrain (station_of self.now) train }
+        requires { All (IsRoute (routes_in self.now)) (named self.now.cone.now train).path }
         ensures { OnOk result (clause.new.items ≡ clause.old.items ++ said_of_train self.now train) }
     {
         let routes = &self.contention.interlocking.routes;
         let path = path(self.cone, train);
         let marks = marks_of(alloc, routes, path)?;
         let closed = is_closed(self.cone, train);
-        for number in 1..routes.len() as u32 + 1 {
-            let route = RouteNo(number);
-            let sign = used_sign(routes, path, &marks, closed, route);
-            push_signed(clause, self.used_number(Command { train, route }), sign)?;
+        for route in self.contention.pairs.commands().routes_of(train) {
+            let command = Command {
+                train,
+                route: *route,
+            };
+            let sign = used_sign(routes, path, &marks, closed, *route);
+            push_signed(clause, self.used_number(command), sign)?;
         }
         Ok(())
     }

@@ -1,16 +1,23 @@
 -- No start is used twice: each route is compared with those before it.
-use Rattle.std.proofs.Common.{◌≡◌, ℕ, zero, suc, ◌+◌, ◌<◌, inl, inr, Bool, true, false, not, List, [], ◌∷◌, ◌++◌, map, take, get_or, length, refl, sym, ap, subst, ◌∙◌, arith, true≢false}
+use Rattle.std.proofs.Common.{◌≡◌, ℕ, zero, suc, ◌+◌, ◌<◌, inl, inr, Bool, true, false, not, List, [], ◌∷◌, ◌++◌, map, take, get_or, length, refl, sym, ap, subst, ◌∙◌, arith, true≢false, eqb-true, eq-eqb}
 use Rattle.std.specs.List.{list_all, list_any}
 use Rattle.std.proofs.lemmas.List.{take_more, map-append}
 use Rattle.rail_base.specs.Members.{all_pairs}
 use Rattle.rail_base.specs.declared.route.Route.{Route}
+use Rattle.rail_base.specs.declared.route.Start.{Start}
+use Rattle.rail_base.specs.declared.route.Start.TheVariants as start
 use Rattle.rail_base.proofs.Members.{In, and_left, and_right, list_all_at, list_any_gives, list_any_from, false_unless}
 use Rattle.rail_spec.specs.Plans.{is_start}
-use Rattle.clause_spec.proofs.Places.{start_sym}
 use Rattle.cone_spec.proofs.Sorted.{all_pairs_append}
 
 abbrev differ : Route → Route → Bool
 differ r q = not (is_start r.start q.start)
+
+start_sym : (s u : Start) → is_start s u ≡ true → is_start u s ≡ true
+start_sym (start.Boundary m) (start.Boundary n) h = eq-eqb n.0 m.0 (sym (eqb-true m.0 n.0 h))
+start_sym (start.Boundary m) (start.Signal q) h = h
+start_sym (start.Signal s) (start.Boundary n) h = h
+start_sym (start.Signal s) (start.Signal q) h = eq-eqb q.0 s.0 (sym (eqb-true s.0 q.0 h))
 
 -- a member before a place, and the member of the place
 pairs_before : {X Y : Type 0} (test : Y → Y → Bool) (f : X → Y) (xs : List X) (i : ℕ) (y : Y) (other : X) → i < length xs → all_pairs test (map f xs) ≡ true → In y (map f (take i xs)) → test y (f (get_or xs i other)) ≡ true

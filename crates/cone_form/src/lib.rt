@@ -4,7 +4,6 @@
 ghost use Rattle.std.specs.Prelude.{◌≡◌, IfOk};
 ghost use Rattle.cone_form.specs.Fits.{fits, trains_fit};
 
-mod contention;
 mod lookup;
 mod marks;
 mod order;
@@ -14,11 +13,10 @@ mod trains;
 mod violations;
 mod walk;
 
-pub use crate::contention::Contention;
 pub use crate::lookup::{entry_of, free_path, is_free, is_named, path};
 pub use crate::marks::{has_mark, marks_of};
 use crate::order::{pairs_in_order, trains_in_order};
-pub use crate::pairs::SortedPairs;
+pub use crate::pairs::{SortedPairs, sorted_pairs};
 use crate::trains::{holders_in_paths, pairs_in_design, trains_in_design};
 use crate::violations::violation_in_design;
 use cone_spec::Cone;
@@ -31,19 +29,23 @@ use std::alloc::{AllocError, Global};
 /// # Errors
 ///
 /// Want of memory alone.
-pub fn is_in_design(alloc: Global, contention: &Contention, cone: &Cone) -> Result<bool, AllocError>
-    ensures { IfOk result (λ b. b ≡ fits contention.now.interlocking.now cone.now) }
+pub fn is_in_design(
+    alloc: Global,
+    interlocking: &Interlocking,
+    cone: &Cone,
+) -> Result<bool, AllocError>
+    ensures { IfOk result (λ b. b ≡ fits interlocking.now cone.now) }
 {
-    if !trains_fit(contention.interlocking, cone) {
+    if !trains_fit(interlocking, cone) {
         return Ok(false);
     }
     if !pairs_in_order(cone.pairs.as_slice()) {
         return Ok(false);
     }
-    if !violation_in_design(contention.interlocking, cone) {
+    if !violation_in_design(interlocking, cone) {
         return Ok(false);
     }
-    pairs_in_design(alloc, contention, cone)
+    pairs_in_design(alloc, interlocking, cone)
 }
 
 /// Whether the cone's trains stand in order, what is said of each is possible, and its holders are commands of it.

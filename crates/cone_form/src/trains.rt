@@ -5,18 +5,18 @@ ghost use Rattle.std.specs.List.{list_all};
 ghost use Rattle.rail_base.specs.declared.station.Station.{Station};
 ghost use Rattle.rail_base.specs.Admission.{is_from};
 ghost use Rattle.rail_base.specs.declared.route.Route.{Route};
+ghost use Rattle.rail_base.specs.Routes.{IsRoute};
+ghost use Rattle.rail_spec.specs.Plans.{contend};
 ghost use Rattle.cone_spec.specs.declared.Cone.{Cone};
 ghost use Rattle.cone_spec.specs.Validity.{holder_in_path};
 ghost use Rattle.interlocking.specs.declared.railway.Interlocking.{Interlocking};
 ghost use Rattle.cone_form.specs.Fits.{each_holder_fits, each_pair_fits, each_train_fits, names_fit, train_fits};
-ghost use Rattle.cone_form.specs.Marks.{marked_pair};
+ghost use Rattle.cone_form.specs.Marks.{MarkRoutes, marked_pair};
 
-use crate::contention::Contention;
 use crate::lookup::is_named;
 use crate::marks::{is_marked, rows_of};
 use crate::walk::is_walk;
 use cone_spec::{Cone, ConeTrain};
-use contending::ContendingPairs;
 use interlocking::Interlocking;
 use rail_base::plan::Command;
 use rail_base::route::{RouteNo, RouteTable};
@@ -49,17 +49,17 @@ pub fn holders_in_paths(cone: &Cone) -> bool
 /// Whether each pair is of two commands of the cone that contend.
 pub fn pairs_in_design(
     alloc: Global,
-    contention: &Contention,
+    interlocking: &Interlocking,
     cone: &Cone,
 ) -> Result<bool, AllocError>
-    requires { each_train_fits contention.now.interlocking.now cone.now ≡ true }
-    ensures { IfOk result (λ b. b ≡ each_pair_fits contention.now.interlocking.now cone.now) }
+    requires { each_train_fits interlocking.now cone.now ≡ true }
+    ensures { IfOk result (λ b. b ≡ each_pair_fits interlocking.now cone.now) }
 {
     if cone.pairs.is_empty() {
         return Ok(true);
     }
-    let rows = rows_of(alloc, contention.interlocking, cone)?;
-    Ok(are_pairs(rows.as_slice(), contention.pairs, cone.pairs.as_slice()))
+    let rows = rows_of(alloc, interlocking, cone)?;
+    Ok(are_pairs(interlocking, rows.as_slice(), cone.pairs.as_slice()))
 }
 
 /// Whether a number is one of `many`, counted from 1.
@@ -105,16 +105,27 @@ fn holder_in_path(cone: &Cone, holder: Option<Command>) -> bool
     }
 }
 
-/// Whether two commands are marked and are one of the contending pairs.
-fn is_pair(rows: &[Vec<bool>], pairs: &ContendingPairs, pair: (Command, Command)) -> bool
-    ensures { result ≡ marked_pair (map (λ row. row.items) rows.now) pairs.now pair }
+/// Whether two commands are of different trains and share a section.
+fn contend(interlocking: &Interlocking, first: Command, second: Command) -> bool
+    requires first { IsRoute interlocking.now.routes first.route }
+    requires second { IsRoute interlocking.now.routes second.route }
+    ensures { result ≡ contend interlocking.now.routes first second }
 {
-    is_marked(rows, pair.0) && is_marked(rows, pair.1) && pairs.is_among(pair.0, pair.1)
+    first.train != second.train && interlocking.share(first.route, second.route)
+}
+
+/// Whether two commands are marked and contend.
+fn is_pair(interlocking: &Interlocking, rows: &[Vec<bool>], pair: (Command, Command)) -> bool
+    requires { MarkRoutes interlocking.now.routes (map (λ row. row.items) rows.now) }
+    ensures { result ≡ marked_pair interlocking.now.routes (map (λ row. row.items) rows.now) pair }
+{
+    is_marked(rows, pair.0) && is_marked(rows, pair.1) && contend(interlocking, pair.0, pair.1)
 }
 
 /// Whether each of these pairs is.
-fn are_pairs(rows: &[Vec<bool>], pairs: &ContendingPairs, listed: &[(Command, Command)]) -> bool
-    ensures { result ≡ list_all (marked_pair (map (λ row. row.items) rows.now) pairs.now) listed.now }
+fn are_pairs(interlocking: &Interlocking, rows: &[Vec<bool>], listed: &[(Command, Command)]) -> bool
+    requires { MarkRoutes interlocking.now.routes (map (λ row. row.items) rows.now) }
+    ensures { result ≡ list_all (marked_pair interlocking.now.routes (map (λ row. row.items) rows.now)) listed.now }
 {
-    listed.iter().all(|pair| is_pair(rows, pairs, *pair))
+    listed.iter().all(|pair| is_pair(interlocking, rows, *pair))
 }

@@ -3,5 +3,4 @@ pub mod Riding
 pub mod Leading
 pub mod Looking
 pub mod Asking
-pub mod Listing
 pub mod Waiting

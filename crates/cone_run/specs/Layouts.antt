@@ -30,17 +30,17 @@ use Rattle.rail_course.specs.Journeys.{AreJourneys}
 module _ (l : ConeLayout) where
   -- the station
   abbrev pub station_of : Station
-  station_of = l.contention.interlocking.now.design.station
+  station_of = l.interlocking.now.design.station
 
   -- its routes
   abbrev pub routes_in : List Route
-  routes_in = l.contention.interlocking.now.routes
+  routes_in = l.interlocking.now.routes
 
   -- ---- the run
 
   -- what happens to each train, up to the greatest horizon
   abbrev pub history_in : List TrainHistory
-  history_in = run_of l.contention.interlocking.now l.cone.now
+  history_in = run_of l.interlocking.now l.cone.now
 
   -- these are the journeys of all trains in the run, in file order
   abbrev pub AreJourneysOf : List Journey → Type 0
@@ -114,7 +114,7 @@ module _ (l : ConeLayout) where
 
   -- the tick of a visit, where the cone's commands are granted or held up as it says
   abbrev pub visit_in_layout : TrainNo → ℕ → Option ℕ
-  visit_in_layout = visit_in_run l.contention.interlocking.now l.cone.now
+  visit_in_layout = visit_in_run l.interlocking.now l.cone.now
 
   -- an answer says whether the cone shows this within, whatever its number
   abbrev pub ShowsWithin : Within → Bool → Type 0

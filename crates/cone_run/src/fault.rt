@@ -8,29 +8,27 @@ ghost use Rattle.interlocking.specs.Plans.{on};
 
 use crate::checked::ConeRun;
 use crate::layout::ConeLayout;
-use cone_form::{Contention, is_in_design};
+use cone_form::is_in_design;
 use cone_spec::{Cone, ConeFault};
+use interlocking::Interlocking;
 use std::alloc::{AllocError, Global};
 
 /// The first of the reasons for which a cone shows nothing, or None where it is valid.
 ///
 /// In the run of a cone of the design each train stands its ticks exactly where it makes its visits, up to its horizon.
-pub fn fault_of<'a>(
+pub fn fault_of(
     alloc: Global,
-    contention: &Contention<'a>,
-    cone: &'a Cone,
+    interlocking: &Interlocking,
+    cone: &Cone,
 ) -> Result<Option<ConeFault>, AllocError>
-    ensures value { IfOk result (λ f. f ≡ first_reason contention.now.interlocking.now cone.now) }
-    ensures stands { on contention.now.interlocking.now ConeStands cone.now }
+    ensures value { IfOk result (λ f. f ≡ first_reason interlocking.now cone.now) }
+    ensures stands { on interlocking.now ConeStands cone.now }
 {
-    let fits = is_in_design(alloc, contention, cone)?;
+    let fits = is_in_design(alloc, interlocking, cone)?;
     if !fits {
         return Ok(Some(ConeFault::PathNotInDesign));
     }
-    let layout = ConeLayout {
-        contention: *contention,
-        cone,
-    };
+    let layout = ConeLayout { interlocking, cone };
     layout.fault(alloc)
 }
 

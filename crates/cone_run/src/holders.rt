@@ -11,6 +11,7 @@ use crate::asked::{all_released, grant_tick, is_by};
 use crate::checked::ConeRun;
 use crate::train::TrainRun;
 use crate::waits::horizon_of;
+use cone_form::sorted_pairs;
 use cone_spec::ConeTrain;
 use rail_base::plan::Command;
 use rail_base::route::{RouteNo, route_at};
@@ -55,7 +56,7 @@ impl ConeRun<'_> {
         requires listed_pair { has_pair self.now.layout.cone.now first second ≡ true }
         ensures { result ≡ has_cleared self.now.layout tick second first }
     {
-        let routes = &self.layout.contention.interlocking.routes;
+        let routes = &self.layout.interlocking.routes;
         all_released(
             self.history,
             first,
@@ -124,7 +125,7 @@ impl TrainRun<'_> {
             train: self.said.train,
             route,
         };
-        let listed = layout.contention.sorted_pairs(layout.cone);
+        let listed = sorted_pairs(layout.cone);
         if !listed.is_among(holder, waiting) {
             return false;
         }

@@ -22,9 +22,9 @@ use std::alloc::{AllocError, Global};
 pub(crate) struct ConePaths<'a> {
     pub layout: ConeLayout<'a>,
     pub train_paths: TrainPaths<'a>,
-    pub ghost over: { train_paths.given.interlocking.now ≡ layout.contention.interlocking.now },
+    pub ghost over: { train_paths.given.interlocking.now ≡ layout.interlocking.now },
     pub ghost given: { train_paths.given.paths.items
-        ≡ on layout.contention.interlocking.now all_free_paths layout.cone.now },
+        ≡ on layout.interlocking.now all_free_paths layout.cone.now },
 }
 
 impl<'a> ConePaths<'a> {
@@ -32,7 +32,7 @@ impl<'a> ConePaths<'a> {
     pub(crate) fn of(alloc: Global, layout: ConeLayout<'a>) -> Result<ConePaths<'a>, AllocError>
         ensures { IfOk result (λ p. p.layout ≡ layout.entry) }
     {
-        let interlocking = layout.contention.interlocking;
+        let interlocking = layout.interlocking;
         let paths = free_paths(alloc, interlocking, layout.cone)?;
         let given = Itineraries {
             interlocking,

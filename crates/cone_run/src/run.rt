@@ -12,26 +12,23 @@ ghost use Rattle.interlocking.specs.Plans.{on};
 
 use crate::layout::ConeLayout;
 use crate::paths::ConePaths;
-use cone_form::Contention;
 use cone_spec::Cone;
 use dispatch_run::Traffic;
+use interlocking::Interlocking;
 use rail_base::history::{History, TrainHistory};
 use rail_base::list::List;
 use std::alloc::{AllocError, Global};
 
 /// What happens to each train in the run of a cone, up to the greatest horizon.
-pub fn cone_history<'a>(
+pub fn cone_history(
     alloc: Global,
-    contention: &Contention<'a>,
-    cone: &'a Cone,
+    interlocking: &Interlocking,
+    cone: &Cone,
 ) -> Result<History, AllocError>
-    requires known { fits contention.now.interlocking.now cone.now ≡ true }
-    ensures { IfOk result (λ h. h ≡ run_of contention.now.interlocking.now cone.now) }
+    requires known { fits interlocking.now cone.now ≡ true }
+    ensures { IfOk result (λ h. h ≡ run_of interlocking.now cone.now) }
 {
-    let layout = ConeLayout {
-        contention: *contention,
-        cone,
-    };
+    let layout = ConeLayout { interlocking, cone };
     Ok(List::from_vec(layout.history(alloc)?))
 }
 
@@ -44,7 +41,7 @@ impl ConeLayout<'_> {
         let journeys = paths.into_journeys(alloc)?;
         let followed_trains = self.followed_trains(alloc, journeys)?;
         let traffic = Traffic {
-            interlocking: self.contention.interlocking,
+            interlocking: self.interlocking,
             followed_trains: followed_trains.as_slice(),
         };
         history_of(&traffic, self.cone, alloc, last_tick(self.cone))

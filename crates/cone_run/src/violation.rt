@@ -19,7 +19,7 @@ impl ConeRun<'_> {
     pub(crate) fn shows_violation(&self, alloc: Global) -> Result<bool, AllocError>
         ensures { IfOk result (λ b. b ≡ shows_violation self.now.layout self.now.layout.cone.now.violation) }
     {
-        let station = &self.layout.contention.interlocking.design.station;
+        let station = &self.layout.interlocking.design.station;
         match self.layout.cone.violation {
             Violation::Path { train, visit } => self.shows_path(alloc, train, visit),
             Violation::Within { within } => {
@@ -38,7 +38,7 @@ impl ConeRun<'_> {
         requires { IsTrain (station_of self.now.layout) train }
         ensures { IfOk result (λ b. b ≡ shows_violation self.now.layout (violation.Path train visit)) }
     {
-        let interlocking = self.layout.contention.interlocking;
+        let interlocking = self.layout.interlocking;
         let routes = path(self.layout.cone, train);
         let path_nodes = path_nodes_of(alloc, interlocking, routes)?;
         let visits = interlocking.design.train(train).visits.as_slice();
@@ -52,9 +52,7 @@ impl ConeRun<'_> {
         requires tick { tick ≤ 86400 }
         ensures { result ≡ comes_late self.now.layout within.now tick }
     {
-        let most = u64::from(
-            within.max_ms / self.layout.contention.interlocking.design.station.tick_ms,
-        );
+        let most = u64::from(within.max_ms / self.layout.interlocking.design.station.tick_ms);
         let last = tick + most;
         if horizon_of(self.layout.cone, within.to_train) < last {
             return false;
@@ -107,7 +105,7 @@ impl ConeRun<'_> {
         ensures { result ≡ shows_violation self.now.layout (violation.Grant train command) }
     {
         let cone = self.layout.cone;
-        let last = self.layout.contention.interlocking.design.horizon();
+        let last = self.layout.interlocking.design.horizon();
         horizon_of(cone, train) == last && free_of(cone, train) < command
     }
 
@@ -117,7 +115,7 @@ impl ConeRun<'_> {
         ensures { result ≡ shows_violation self.now.layout (violation.Visit train visit) }
     {
         let last = horizon_of(self.layout.cone, train);
-        if last != self.layout.contention.interlocking.design.horizon() {
+        if last != self.layout.interlocking.design.horizon() {
             return false;
         }
         self.visit_tick(last, train, visit).is_none()

@@ -9,8 +9,8 @@ ghost use Rattle.cone_run.specs.Runs.{visit_in_run};
 use crate::checked::ConeRun;
 use crate::layout::ConeLayout;
 use crate::waits::horizon_of;
-use cone_form::Contention;
 use cone_spec::Cone;
+use interlocking::Interlocking;
 use rail_base::station::TrainNo;
 use std::alloc::{AllocError, Global};
 
@@ -20,21 +20,18 @@ use std::alloc::{AllocError, Global};
 /// # Errors
 ///
 /// Want of memory alone.
-pub fn visit_in_run<'a>(
+pub fn visit_in_run(
     alloc: Global,
-    contention: &Contention<'a>,
-    cone: &'a Cone,
+    interlocking: &Interlocking,
+    cone: &Cone,
     train: TrainNo,
     visit: u32,
 ) -> Result<Option<u64>, AllocError>
-    requires known { fits contention.now.interlocking.now cone.now ≡ true }
-    requires train { IsTrain contention.now.interlocking.now.design.station train }
-    ensures { IfOk result (λ tick. tick ≡ visit_in_run contention.now.interlocking.now cone.now train visit) }
+    requires known { fits interlocking.now cone.now ≡ true }
+    requires train { IsTrain interlocking.now.design.station train }
+    ensures { IfOk result (λ tick. tick ≡ visit_in_run interlocking.now cone.now train visit) }
 {
-    let layout = ConeLayout {
-        contention: *contention,
-        cone,
-    };
+    let layout = ConeLayout { interlocking, cone };
     layout.visit_made(alloc, train, visit)
 }
 

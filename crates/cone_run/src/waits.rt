@@ -73,19 +73,16 @@ impl ConePaths<'_> {
         Ok(journeys)
     }
 
-    /// The waits of a command for those that are listed before it. They are among those that contend with it.
+    /// The waits of a command for those that are listed before it.
     fn waits_of(&self, alloc: Global, command: Command) -> Result<Vec<Wait>, AllocError>
         requires { IsRoute self.now.train_paths.given.interlocking.now.routes command.route }
         ensures { IfOk result (λ w. AreWaitsInCone self.now command w.items) }
     {
-        let contention = self.layout.contention;
-        let listed = contention.sorted_pairs(self.layout.cone);
-        let others = contention.pairs.rivals(alloc, command)?;
         let mut waits = Vec::new(alloc);
-        for other in &others {
-            if listed.is_among(*other, command) {
+        for (first, second) in self.layout.cone.pairs.as_slice() {
+            if *second == command {
                 self.train_paths
-                    .push_waits(alloc, &mut waits, command, *other)?;
+                    .push_waits(alloc, &mut waits, command, *first)?;
             }
         }
         Ok(waits)

@@ -66,26 +66,4 @@ impl Interlocking {
     {
         self.sections(one).meets(self.sections(other))
     }
-
-    /// Where a route has released all its own sections that another has too, in mm from its start.
-    pub fn last_release(&self, one: RouteNo, other: RouteNo) -> u64
-        requires one { IsRoute self.now.routes one }
-        requires other { IsRoute self.now.routes other }
-        ensures { result ≡ last_release (route_at self.now.routes one) (route_at self.now.routes other) }
-    {
-        last_release_of(self.route(one), self.sections(other))
-    }
-}
-
-/// Where a route has released all of its own sections that are in a set, in mm from its start.
-fn last_release_of(route: &Route, set: &NumberSet) -> u64
-    ensures { result ≡ fold max 0 (map (λ p. nat_abs p.1) (filter (λ p. contains set.now p.0.0) route.now.sections)) }
-{
-    route
-        .sections
-        .as_slice()
-        .iter()
-        .filter(|part| set.contains(part.0.0))
-        .map(|part| part.1.unsigned_abs())
-        .fold(0, |most, offset| most.max(offset))
 }

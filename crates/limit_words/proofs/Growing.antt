@@ -1,5 +1,5 @@
 -- The clauses grow evenly: family by family.
-use Rattle.std.proofs.Common.{◌≡◌, ℕ, suc, ◌+◌, ◌-◌, Bool, true, false, if◌then◌else◌, List, [], ◌∷◌, ◌++◌, map, filter, flat_map, length, sum_by, refl, ap, ◌∙◌, arith, length-append}
+use Rattle.std.proofs.Common.{◌≡◌, ℕ, suc, ◌+◌, ◌-◌, Bool, true, false, if◌then◌else◌, List, [], ◌∷◌, ◌++◌, map, filter, flat_map, length, sum_by, refl, sym, ap, ◌∙◌, arith, length-append}
 use Rattle.rail_base.specs.declared.station.Station.{Station}
 use Rattle.rail_base.specs.declared.station.TrainNo.{TrainNo}
 use Rattle.rail_base.specs.declared.route.Route.{Route}
@@ -10,17 +10,26 @@ use Rattle.rail_base.specs.declared.plan.Command.{Command}
 use Rattle.rail_base.specs.Numbering.{count_from, one_to, entry}
 use Rattle.rail_base.specs.Stations.{trains, train_of, first_visit}
 use Rattle.rail_base.proofs.Lists.{length-map}
-use Rattle.rail_spec.specs.Plans.{route_at, has_node, route_numbers, all_commands}
-use Rattle.clause_spec.specs.Variables.{Given, Before, By, Literal, yes, no, if_given, pairs, numbered}
-use Rattle.clause_spec.specs.Clauses.{Clause, all_given, base_clauses, chains, clauses, clearing, exclude, excluded, first_pairs, in_order, later_pairs, leading_to, literals, makes_visits, may_visit, not_at_once, not_both, onward, start_clause, starts_rightly, stays_given, visited, wait_clause, waits}
+use Rattle.rail_spec.specs.Plans.{route_at, has_node, all_commands}
+use Rattle.clause_spec.specs.Variables.{Given, Before, By, Literal, yes, no, if_given, numbered}
+use Rattle.clause_spec.specs.Clauses.{Clause, base_clauses, clauses, clearing, exclude, in_order, later_pairs, literals, may_visit, not_at_once, not_both, stays_given}
 use Rattle.clause_spec.proofs.Few.{literals_told}
-use Rattle.alike_clause_spec.specs.Turns.{begun_always, beginnings, has_begun, in_turn, turn_clauses}
+use Rattle.alike_clause_spec.specs.Sorted.{sorted_base}
 use Rattle.normal_clause_spec.specs.Variables.{of_base, is_in, is_not_in, normal_numbered}
 use Rattle.normal_clause_spec.specs.Clauses.{NormalClause, not_before, exactly_in, exactly, leaders, keepers, kept_clause, kept, normal_clauses}
+use Rattle.live_clause_spec.specs.Live.{is_live}
+use Rattle.live_clause_spec.specs.Clauses.{clauses_left, live_base, sorted_clauses}
+use Rattle.live_clause_spec.specs.Listed.{live_all_given, live_beginnings, live_chains, live_clauses, live_excluded, live_first_pairs, live_has_begun, live_in_turn, live_leading_to, live_makes_visits, live_onward, live_routes, live_start_clause, live_starts_rightly, live_visited, live_wait_clause, live_waits}
+use Rattle.live_clause_spec.specs.Variables.{live_commands, live_numbered, live_pairs}
+use Rattle.live_clause_spec.proofs.Listing.{left_is_listed}
+use Rattle.live_clause_spec.proofs.Sorted.{sorted_are}
 use Rattle.rail_alike.specs.Tests.{neighbors}
+use Rattle.sat_clause.specs.declared.lit.Lit.{Lit}
+use Rattle.plan_encoding.specs.Bases.{plain_clauses}
+use Rattle.plan_encoding.proofs.Over.{any, none_dead, plain_left}
 use Rattle.limit_words.specs.Counts.{literal_count, GrowEvenly}
 use Rattle.clause_spec.specs.declared.question.BaseKind.{BaseKind}
-use Rattle.clause_spec.specs.declared.question.BaseKind.TheVariants.{Plain, Sorted, Normal}
+use Rattle.clause_spec.specs.declared.question.BaseKind.TheVariants.{Plain, Sorted, Normal, Live}
 use Rattle.limit_words.proofs.Even.{Even, even_like, even_still, even_both, even_steps, even_fewer, even_append, even_each, evenly, same_counts, same_sums, literals-map, literals-append, literals-cons, literals-flat_map}
 
 -- for each step from the second on one literal says that a command is given by the step before
@@ -37,44 +46,46 @@ never : (c : Command) (i : ℕ) (b : Bool) → literals (if b then [] else (no (
 never c i true = refl
 never c i false = refl
 
-module _ (d : Station) (routes : List Route) where
+-- ---- what is left of them by a test of live commands
+
+module _ (live : Command → Bool) (d : Station) (routes : List Route) where
   stays : (c : Command) → Even (λ n. literals (stays_given d routes n c))
   stays c =
       even_like (λ n. sum_by (λ i. 2) (one_to (n - 1))) (λ n. literals (stays_given d routes n c))
       (λ n. literals-map (λ i. no (Given c i) ∷ yes (Given c (i + 1)) ∷ []) (one_to (n - 1)))
       (even_fewer (λ i. 2) 2 (λ i. refl))
 
-  -- the routes that lead to a start
+  -- the live routes that lead to a start
   abbrev led_by : Command → Start → ℕ → Clause
-  led_by c s i = no (Given c i) ∷ flat_map (λ q. if_given (record { train = c.train; route = q }) (i - 1)) (leading_to routes s)
+  led_by c s i = no (Given c i) ∷ flat_map (λ q. if_given (record { train = c.train; route = q }) (i - 1)) (live_leading_to live routes c.train s)
 
-  led_is : (c : Command) (s : Start) (i : ℕ) → literals (led_by c s (suc (suc i)) ∷ []) ≡ suc (length (leading_to routes s))
+  led_is : (c : Command) (s : Start) (i : ℕ) → literals (led_by c s (suc (suc i)) ∷ []) ≡ suc (length (live_leading_to live routes c.train s))
   led_is c s i =
       let all = literals-cons (led_by c s (suc (suc i))) [] in
       let before : suc (suc i) - 1 ≡ suc i = omega arith in
-      let one : length (led_by c s (suc (suc i))) ≡ suc (length (leading_to routes s)) =
-      ap (λ k. suc (length (flat_map (λ q. if_given (record { train = c.train; route = q }) k) (leading_to routes s)))) before
-      ∙ ap suc (each_given c.train (leading_to routes s) i) in
+      let one : length (led_by c s (suc (suc i))) ≡ suc (length (live_leading_to live routes c.train s)) =
+      ap (λ k. suc (length (flat_map (λ q. if_given (record { train = c.train; route = q }) k) (live_leading_to live routes c.train s)))) before
+      ∙ ap suc (each_given c.train (live_leading_to live routes c.train s) i) in
       omega arith
 
-  starts_even : (c : Command) (s : Start) → Even (λ n. literals (flat_map (start_clause d routes n c s) (one_to n)))
+  starts_even : (c : Command) (s : Start) → Even (λ n. literals (flat_map (live_start_clause live d routes n c s) (one_to n)))
   starts_even c (start.Boundary m) =
       let there = has_node (first_visit (train_of d c.train)) m in
-      even_like (λ n. sum_by (λ i. if there then 0 else 1) (one_to n)) (λ n. literals (flat_map (start_clause d routes n c (start.Boundary m)) (one_to n)))
-      (λ n. literals-flat_map (start_clause d routes n c (start.Boundary m)) (one_to n) ∙ same_sums (λ i. literals (start_clause d routes n c (start.Boundary m) i)) (λ i. if there then 0 else 1) (one_to n) (λ i. never c i there))
+      even_like (λ n. sum_by (λ i. if there then 0 else 1) (one_to n)) (λ n. literals (flat_map (live_start_clause live d routes n c (start.Boundary m)) (one_to n)))
+      (λ n. literals-flat_map (live_start_clause live d routes n c (start.Boundary m)) (one_to n) ∙ same_sums (λ i. literals (live_start_clause live d routes n c (start.Boundary m) i)) (λ i. if there then 0 else 1) (one_to n) (λ i. never c i there))
       (even_steps (λ i. if there then 0 else 1) (if there then 0 else 1) (λ i. refl))
   starts_even c (start.Signal s) =
-      even_like (λ n. sum_by (λ i. literals (led_by c (start.Signal s) i ∷ [])) (one_to n)) (λ n. literals (flat_map (start_clause d routes n c (start.Signal s)) (one_to n)))
-      (λ n. literals-flat_map (start_clause d routes n c (start.Signal s)) (one_to n))
-      (even_steps (λ i. literals (led_by c (start.Signal s) i ∷ [])) (suc (length (leading_to routes (start.Signal s)))) (led_is c (start.Signal s)))
+      even_like (λ n. sum_by (λ i. literals (led_by c (start.Signal s) i ∷ [])) (one_to n)) (λ n. literals (flat_map (live_start_clause live d routes n c (start.Signal s)) (one_to n)))
+      (λ n. literals-flat_map (live_start_clause live d routes n c (start.Signal s)) (one_to n))
+      (even_steps (λ i. literals (led_by c (start.Signal s) i ∷ [])) (suc (length (live_leading_to live routes c.train (start.Signal s)))) (led_is c (start.Signal s)))
 
-  starts : (c : Command) → Even (λ n. literals (starts_rightly d routes n c))
+  starts : (c : Command) → Even (λ n. literals (live_starts_rightly live d routes n c))
   starts c = starts_even c (route_at routes c.route).start
 
-  apart : (t : TrainNo) → Even (λ n. literals (excluded d routes n t))
+  apart : (t : TrainNo) → Even (λ n. literals (live_excluded live d routes n t))
   apart t =
-      let excluding : List (RouteNo × RouteNo) = filter (λ p. exclude (route_at routes p.0) (route_at routes p.1)) (later_pairs (route_numbers routes)) in
-      even_still (λ n. literals (excluded d routes n t)) (sum_by (λ p. 2) excluding) (λ n. literals-map (not_both d routes n t) excluding)
+      let excluding : List (RouteNo × RouteNo) = filter (λ p. exclude (route_at routes p.0) (route_at routes p.1)) (later_pairs (live_routes live routes t)) in
+      even_still (λ n. literals (live_excluded live d routes n t)) (sum_by (λ p. 2) excluding) (λ n. literals-map (not_both d routes n t) excluding)
 
   -- not both are new in one step
   abbrev once : Command × Command → ℕ → Clause
@@ -91,35 +102,35 @@ module _ (d : Station) (routes : List Route) where
       (even_steps (λ i. length (once p i)) 4 (once_is p))
 
   -- how many literals a command has that waits at a chain
-  abbrev waiting : List RouteNo × RouteNo → ℕ
-  waiting chain = length chain.0 + (2 + length (onward routes chain.0 chain.1))
+  abbrev waiting : TrainNo → List RouteNo × RouteNo → ℕ
+  waiting t chain = length chain.0 + (2 + length (live_onward live routes t chain.0 chain.1))
 
-  wait_is : (e c : Command) (chain : List RouteNo × RouteNo) (n i : ℕ) → length (wait_clause d routes n e c chain i) ≡ waiting chain
+  wait_is : (e c : Command) (chain : List RouteNo × RouteNo) (n i : ℕ) → length (live_wait_clause live d routes n e c chain i) ≡ waiting e.train chain
   wait_is e c chain n i =
       let given : RouteNo → Literal = λ w. yes (Given (record { train = e.train; route = w }) i) in
       let not_given : RouteNo → Literal = λ w. no (Given (record { train = e.train; route = w }) i) in
-      let more : List Literal = no (Given c (i + 1)) ∷ yes (Given c i) ∷ map given (onward routes chain.0 chain.1) in
+      let more : List Literal = no (Given c (i + 1)) ∷ yes (Given c i) ∷ map given (live_onward live routes e.train chain.0 chain.1) in
       let all = length-append (map not_given chain.0) more in
       let one = length-map not_given chain.0 in
-      let further = length-map given (onward routes chain.0 chain.1) in
+      let further = length-map given (live_onward live routes e.train chain.0 chain.1) in
       omega arith
 
-  waits_once : (e c : Command) (chain : List RouteNo × RouteNo) → Even (λ n. literals (map (wait_clause d routes n e c chain) (one_to (n - 1))))
+  waits_once : (e c : Command) (chain : List RouteNo × RouteNo) → Even (λ n. literals (map (live_wait_clause live d routes n e c chain) (one_to (n - 1))))
   waits_once e c chain =
-      even_like (λ n. sum_by (λ i. waiting chain) (one_to (n - 1))) (λ n. literals (map (wait_clause d routes n e c chain) (one_to (n - 1))))
-      (λ n. literals-map (wait_clause d routes n e c chain) (one_to (n - 1)) ∙ same_sums (λ i. length (wait_clause d routes n e c chain i)) (λ i. waiting chain) (one_to (n - 1)) (wait_is e c chain n))
-      (even_fewer (λ i. waiting chain) (waiting chain) (λ i. refl))
+      even_like (λ n. sum_by (λ i. waiting e.train chain) (one_to (n - 1))) (λ n. literals (map (live_wait_clause live d routes n e c chain) (one_to (n - 1))))
+      (λ n. literals-map (live_wait_clause live d routes n e c chain) (one_to (n - 1)) ∙ same_sums (λ i. length (live_wait_clause live d routes n e c chain i)) (λ i. waiting e.train chain) (one_to (n - 1)) (wait_is e c chain n))
+      (even_fewer (λ i. waiting e.train chain) (waiting e.train chain) (λ i. refl))
 
-  waits_even : (p : Command × Command) → Even (λ n. literals (waits d routes n p))
+  waits_even : (p : Command × Command) → Even (λ n. literals (live_waits live d routes n p))
   waits_even p =
-      even_each (λ n chain. map (wait_clause d routes n p.0 p.1 chain) (one_to (n - 1))) (chains routes (length routes) (clearing d routes 1 p.0 p.1) [] p.0.route) (waits_once p.0 p.1)
+      even_each (λ n chain. map (live_wait_clause live d routes n p.0 p.1 chain) (one_to (n - 1))) (live_chains live routes p.0.train (length routes) (clearing d routes 1 p.0 p.1) [] p.0.route) (waits_once p.0 p.1)
 
-  visits_even : (t : TrainNo) → Even (λ n. literals (makes_visits d routes n t))
+  visits_even : (t : TrainNo) → Even (λ n. literals (live_makes_visits live d routes n t))
   visits_even t =
       let visits : List ℕ = one_to (length (train_of d t).visits) in
-      let rs : ℕ → List RouteNo = λ k. filter (may_visit d routes 1 k (entry [] (train_of d t).visits k)) (route_numbers routes) in
-      even_still (λ n. literals (makes_visits d routes n t)) (sum_by (λ k. length (rs k)) visits)
-      (λ n. literals-map (visited d routes n t) visits ∙ same_sums (λ k. length (visited d routes n t k)) (λ k. length (rs k)) visits (λ k. length-map (λ r. yes (Given (record { train = t; route = r }) n)) (rs k)))
+      let rs : ℕ → List RouteNo = λ k. filter (may_visit d routes 1 k (entry [] (train_of d t).visits k)) (live_routes live routes t) in
+      even_still (λ n. literals (live_makes_visits live d routes n t)) (sum_by (λ k. length (rs k)) visits)
+      (λ n. literals-map (live_visited live d routes n t) visits ∙ same_sums (λ k. length (live_visited live d routes n t k)) (λ k. length (rs k)) visits (λ k. length-map (λ r. yes (Given (record { train = t; route = r }) n)) (rs k)))
 
   -- where the first is before the second, it is given by the step before
   abbrev earlier : Command × Command → ℕ → Clause
@@ -145,69 +156,89 @@ module _ (d : Station) (routes : List Route) where
           let third = literals-map later (one_to (n - 1)) in
           omega arith
 
-  all_by_steps : Even (λ n. literals (flat_map (all_given d routes n) (one_to (n - 1))))
+  all_by_steps : Even (λ n. literals (flat_map (live_all_given live d routes n) (one_to (n - 1))))
   all_by_steps =
-      let all : ℕ = sum_by (λ c. 3) (all_commands d routes) in
-      even_like (λ n. sum_by (λ k. all) (one_to (n - 1))) (λ n. literals (flat_map (all_given d routes n) (one_to (n - 1))))
-      (λ n. literals-flat_map (all_given d routes n) (one_to (n - 1))
-      ∙ same_sums (λ k. literals (all_given d routes n k)) (λ k. all) (one_to (n - 1)) (λ k. literals-map (λ c. no (By k) ∷ no (Given c n) ∷ yes (Given c k) ∷ []) (all_commands d routes)))
+      let all : ℕ = sum_by (λ c. 3) (live_commands live d routes) in
+      even_like (λ n. sum_by (λ k. all) (one_to (n - 1))) (λ n. literals (flat_map (live_all_given live d routes n) (one_to (n - 1))))
+      (λ n. literals-flat_map (live_all_given live d routes n) (one_to (n - 1))
+      ∙ same_sums (λ k. literals (live_all_given live d routes n k)) (λ k. all) (one_to (n - 1)) (λ k. literals-map (λ c. no (By k) ∷ no (Given c n) ∷ yes (Given c k) ∷ []) (live_commands live d routes)))
       (even_fewer (λ k. all) all (λ k. refl))
 
   -- ---- all of them
 
   abbrev alone : ℕ → List Clause
-  alone n = flat_map (stays_given d routes n) (all_commands d routes) ++ flat_map (starts_rightly d routes n) (all_commands d routes) ++ flat_map (excluded d routes n) (trains d)
+  alone n = flat_map (stays_given d routes n) (live_commands live d routes) ++ flat_map (live_starts_rightly live d routes n) (live_commands live d routes) ++ flat_map (live_excluded live d routes n) (trains d)
 
   abbrev together : ℕ → List Clause
-  together n = alone n ++ flat_map (not_at_once d routes n) (first_pairs d routes n) ++ flat_map (waits d routes n) (pairs d routes)
+  together n = alone n ++ flat_map (not_at_once d routes n) (live_first_pairs live d routes n) ++ flat_map (live_waits live d routes n) (live_pairs live d routes)
 
   alone_even : Even (λ n. literals (alone n))
   alone_even =
-      even_append (λ n. flat_map (stays_given d routes n) (all_commands d routes) ++ flat_map (starts_rightly d routes n) (all_commands d routes)) (λ n. flat_map (excluded d routes n) (trains d))
-      (even_append (λ n. flat_map (stays_given d routes n) (all_commands d routes)) (λ n. flat_map (starts_rightly d routes n) (all_commands d routes))
-      (even_each (stays_given d routes) (all_commands d routes) stays)
-      (even_each (starts_rightly d routes) (all_commands d routes) starts))
-      (even_each (excluded d routes) (trains d) apart)
+      even_append (λ n. flat_map (stays_given d routes n) (live_commands live d routes) ++ flat_map (live_starts_rightly live d routes n) (live_commands live d routes)) (λ n. flat_map (live_excluded live d routes n) (trains d))
+      (even_append (λ n. flat_map (stays_given d routes n) (live_commands live d routes)) (λ n. flat_map (live_starts_rightly live d routes n) (live_commands live d routes))
+      (even_each (stays_given d routes) (live_commands live d routes) stays)
+      (even_each (live_starts_rightly live d routes) (live_commands live d routes) starts))
+      (even_each (live_excluded live d routes) (trains d) apart)
 
   together_even : Even (λ n. literals (together n))
   together_even =
-      even_append (λ n. alone n ++ flat_map (not_at_once d routes n) (first_pairs d routes n)) (λ n. flat_map (waits d routes n) (pairs d routes))
-      (even_append alone (λ n. flat_map (not_at_once d routes n) (first_pairs d routes n)) alone_even
-      (even_each (not_at_once d routes) (first_pairs d routes 1) at_once))
-      (even_each (waits d routes) (pairs d routes) waits_even)
+      even_append (λ n. alone n ++ flat_map (not_at_once d routes n) (live_first_pairs live d routes n)) (λ n. flat_map (live_waits live d routes n) (live_pairs live d routes))
+      (even_append alone (λ n. flat_map (not_at_once d routes n) (live_first_pairs live d routes n)) alone_even
+      (even_each (not_at_once d routes) (live_first_pairs live d routes 1) at_once))
+      (even_each (live_waits live d routes) (live_pairs live d routes) waits_even)
 
-  clauses_even : Even (λ n. literals (clauses d routes n))
-  clauses_even =
-      even_append (λ n. together n ++ flat_map (makes_visits d routes n) (trains d) ++ flat_map (in_order d routes n) (pairs d routes)) (λ n. flat_map (all_given d routes n) (one_to (n - 1)))
-      (even_append (λ n. together n ++ flat_map (makes_visits d routes n) (trains d)) (λ n. flat_map (in_order d routes n) (pairs d routes))
-      (even_append together (λ n. flat_map (makes_visits d routes n) (trains d)) together_even
-      (even_each (makes_visits d routes) (trains d) visits_even))
-      (even_each (in_order d routes) (pairs d routes) orders_even))
+  plain_even : Even (λ n. literals (plain_clauses live d routes n))
+  plain_even =
+      even_append (λ n. together n ++ flat_map (live_makes_visits live d routes n) (trains d) ++ flat_map (in_order d routes n) (live_pairs live d routes)) (λ n. flat_map (live_all_given live d routes n) (one_to (n - 1)))
+      (even_append (λ n. together n ++ flat_map (live_makes_visits live d routes n) (trains d)) (λ n. flat_map (in_order d routes n) (live_pairs live d routes))
+      (even_append together (λ n. flat_map (live_makes_visits live d routes n) (trains d)) together_even
+      (even_each (live_makes_visits live d routes) (trains d) visits_even))
+      (even_each (in_order d routes) (live_pairs live d routes) orders_even))
       all_by_steps
 
-  base_even : Even (λ n. literals (base_clauses d routes n))
-  base_even =
-      even_like (λ n. literals (clauses d routes n)) (λ n. literals (base_clauses d routes n)) (λ n. literals_told (numbered d routes n) (clauses d routes n)) clauses_even
+  -- ---- with those of trains that come in turn
 
-  -- ---- and those of trains that come in turn
+  begun_is : (p : TrainNo × TrainNo) (q : RouteNo) (n i : ℕ) → length (live_has_begun live d routes n p q i) ≡ suc (length (live_beginnings live d routes 1 p.0))
+  begun_is p q n i = ap suc (length-map (λ r. yes (Given (record { train = p.0; route = r }) i)) (live_beginnings live d routes n p.0))
 
-  begun_is : (p : TrainNo × TrainNo) (q : RouteNo) (n i : ℕ) → length (has_begun d routes n p q i) ≡ suc (length (beginnings d routes 1 p.0))
-  begun_is p q n i = ap suc (length-map (λ r. yes (Given (record { train = p.0; route = r }) i)) (beginnings d routes n p.0))
-
-  begun_even : (p : TrainNo × TrainNo) (q : RouteNo) → Even (λ n. literals (begun_always d routes n p q))
+  begun_even : (p : TrainNo × TrainNo) (q : RouteNo) → Even (λ n. literals (map (live_has_begun live d routes n p q) (one_to n)))
   begun_even p q =
-      let each : ℕ = suc (length (beginnings d routes 1 p.0)) in
-      even_like (λ n. sum_by (λ i. each) (one_to n)) (λ n. literals (begun_always d routes n p q))
-      (λ n. literals-map (has_begun d routes n p q) (one_to n) ∙ same_sums (λ i. length (has_begun d routes n p q i)) (λ i. each) (one_to n) (begun_is p q n))
+      let each : ℕ = suc (length (live_beginnings live d routes 1 p.0)) in
+      even_like (λ n. sum_by (λ i. each) (one_to n)) (λ n. literals (map (live_has_begun live d routes n p q) (one_to n)))
+      (λ n. literals-map (live_has_begun live d routes n p q) (one_to n) ∙ same_sums (λ i. length (live_has_begun live d routes n p q i)) (λ i. each) (one_to n) (begun_is p q n))
       (even_steps (λ i. each) each (λ i. refl))
 
-  turn_even : (p : TrainNo × TrainNo) → Even (λ n. literals (in_turn d routes n p))
-  turn_even p = even_each (λ n q. begun_always d routes n p q) (beginnings d routes 1 p.1) (begun_even p)
+  turn_even : (p : TrainNo × TrainNo) → Even (λ n. literals (live_in_turn live d routes n p))
+  turn_even p = even_each (λ n q. map (live_has_begun live d routes n p q) (one_to n)) (live_beginnings live d routes 1 p.1) (begun_even p)
 
-  turns_even : (pairs : List (TrainNo × TrainNo)) → Even (λ n. literals (turn_clauses d routes n pairs))
-  turns_even pairs =
-      even_like (λ n. literals (flat_map (in_turn d routes n) pairs)) (λ n. literals (turn_clauses d routes n pairs)) (λ n. literals_told (numbered d routes n) (flat_map (in_turn d routes n) pairs))
-      (even_each (in_turn d routes) pairs turn_even)
+  listed_even : Even (λ n. literals (live_clauses live d routes n))
+  listed_even =
+      even_append (λ n. plain_clauses live d routes n) (λ n. flat_map (live_in_turn live d routes n) (neighbors d)) plain_even
+      (even_each (live_in_turn live d routes) (neighbors d) turn_even)
+
+-- ---- the bases
+
+module _ (d : Station) (routes : List Route) where
+  -- nothing goes where all commands are live
+  base_even : Even (λ n. literals (base_clauses d routes n))
+  base_even =
+      even_like (λ n. literals (plain_clauses any d routes n)) (λ n. literals (base_clauses d routes n))
+      (λ n. literals_told (numbered d routes n) (clauses d routes n) ∙ ap (λ (cls : List Clause). literals cls) (sym (none_dead (clauses d routes n)) ∙ plain_left any d routes n))
+      (plain_even any d routes)
+
+  sorted_even : Even (λ n. literals (sorted_base d routes n))
+  sorted_even =
+      even_like (λ n. literals (live_clauses any d routes n)) (λ n. literals (sorted_base d routes n))
+      (λ n. ap (λ (cs : List (List Lit)). literals cs) (sorted_are d routes n)
+      ∙ (literals_told (numbered d routes n) (sorted_clauses d routes n) ∙ ap (λ (cls : List Clause). literals cls) (sym (none_dead (sorted_clauses d routes n)) ∙ left_is_listed any d routes n)))
+      (listed_even any d routes)
+
+  live_even : Even (λ n. literals (live_base d routes n))
+  live_even =
+      let live : Command → Bool = is_live d routes in
+      even_like (λ n. literals (live_clauses live d routes n)) (λ n. literals (live_base d routes n))
+      (λ n. literals_told (live_numbered live d routes n) (clauses_left live d routes n) ∙ ap (λ (cls : List Clause). literals cls) (left_is_listed live d routes n))
+      (listed_even live d routes)
 
   -- ---- and those of normal plans
 
@@ -256,8 +287,9 @@ module _ (d : Station) (routes : List Route) where
 
   count_even : (kind : BaseKind) → Even (literal_count kind d routes)
   count_even Plain = base_even
-  count_even Sorted = even_append (base_clauses d routes) (λ n. turn_clauses d routes n (neighbors d)) base_even (turns_even (neighbors d))
+  count_even Sorted = sorted_even
   count_even Normal = even_append (base_clauses d routes) (λ n. map (map (normal_numbered d routes n)) (normal_clauses d routes n)) base_even normal_even
+  count_even Live = live_even
 
 pub grow_evenly : (kind : BaseKind) (d : Station) (routes : List Route) → GrowEvenly kind d routes
 grow_evenly kind d routes = evenly (literal_count kind d routes) (count_even d routes kind)

@@ -4,7 +4,8 @@ ghost use Rattle.std.specs.Prelude.{◌≡◌, ◌≤◌, IfOk, OnOk};
 ghost use Rattle.interlocking.specs.Plans.{on};
 ghost use Rattle.rail_text.specs.Added.{AddsLines, AddsText};
 ghost use Rattle.rail_outside.specs.Lines.{lines_of};
-ghost use Rattle.limit_words.specs.Lines.{AreLimitLines, excess_text, kind_text, known_text, limit_line, limits_said, unknown_text};
+ghost use Rattle.limit_words.specs.Lines.{AreLimitLines, excess_text, fits_line, kind_text, known_text, limit_line};
+ghost use Rattle.limit_words.specs.Lines.{limits_said, unknown_text};
 
 use crate::greatest::{Limit, limit_for};
 use clause_spec::BaseKind;
@@ -18,7 +19,7 @@ fn put_kind(text: &mut Vec<u8>, kind: BaseKind) -> Result<(), AllocError>
 {
     match kind {
         BaseKind::Plain => text.extend_from_slice(b"without --bounds"),
-        BaseKind::Sorted => text.extend_from_slice(b"with --bounds"),
+        BaseKind::Sorted | BaseKind::Live => text.extend_from_slice(b"with --bounds"),
         BaseKind::Normal => text.extend_from_slice(b"with --normal"),
     }
 }
@@ -71,7 +72,19 @@ fn limit_line(
     Ok(line)
 }
 
-/// Appends that line, where fewer can.
+/// That so many steps can be asked for with bounds.
+fn fits_line(alloc: Global, steps: u32) -> Result<Vec<u8>, AllocError>
+    ensures { IfOk result (λ line. line.items ≡ fits_line steps) }
+{
+    let mut line = Vec::new(alloc);
+    put_kind(&mut line, BaseKind::Live)?;
+    line.extend_from_slice(b" ")?;
+    put_number(&mut line, u64::from(steps))?;
+    line.extend_from_slice(b" steps can be asked for\n")?;
+    Ok(line)
+}
+
+/// Appends the line on a limit, where fewer can; else, of the base of live commands, that so many can.
 fn push_limit(
     alloc: Global,
     kind: BaseKind,
@@ -81,15 +94,24 @@ fn push_limit(
 ) -> Result<(), AllocError>
     ensures { OnOk result (AddsLines lines.old lines.new (limits_said kind steps limit)) }
 {
-    if let Some(limit) = limit {
-        let line = limit_line(alloc, kind, steps, limit)?;
-        lines.push(line)?;
+    match limit {
+        Some(limit) => {
+            let line = limit_line(alloc, kind, steps, limit)?;
+            lines.push(line)?;
+        }
+        None => match kind {
+            BaseKind::Live => {
+                let line = fits_line(alloc, steps)?;
+                lines.push(line)?;
+            }
+            BaseKind::Plain | BaseKind::Sorted | BaseKind::Normal => {}
+        },
     }
     Ok(())
 }
 
 /// How many steps can be asked for without bounds, with them, and for normal plans alone, where they are fewer than
-/// these, from 1 to 256.
+/// these, from 1 to 256; and that these can with bounds, where they are not.
 pub fn limit_lines(
     alloc: Global,
     interlocking: &Interlocking,
@@ -100,11 +122,11 @@ pub fn limit_lines(
     ensures { IfOk result (λ lines. on interlocking.now AreLimitLines steps (lines_of lines.items)) }
 {
     let plain = limit_for(alloc, interlocking, BaseKind::Plain, steps)?;
-    let bounds = limit_for(alloc, interlocking, BaseKind::Sorted, steps)?;
+    let bounds = limit_for(alloc, interlocking, BaseKind::Live, steps)?;
     let normal = limit_for(alloc, interlocking, BaseKind::Normal, steps)?;
     let mut lines = Vec::new(alloc);
     push_limit(alloc, BaseKind::Plain, steps, plain, &mut lines)?;
-    push_limit(alloc, BaseKind::Sorted, steps, bounds, &mut lines)?;
+    push_limit(alloc, BaseKind::Live, steps, bounds, &mut lines)?;
     push_limit(alloc, BaseKind::Normal, steps, normal, &mut lines)?;
     Ok(lines)
 }

@@ -1,5 +1,5 @@
 -- The clauses of the sorted base with the variables of commands that aren't live taken for false.
-use Rattle.std.specs.Prelude.{ℕ, Bool, not, ◌&&◌, List, ◌++◌, map, filter, flat_map}
+use Rattle.std.specs.Prelude.{ℕ, Bool, not, ◌&&◌, if◌then◌else◌, List, ◌++◌, map, filter, flat_map, Option, None, Some}
 use Rattle.std.specs.List.{list_any}
 use Rattle.rail_base.specs.declared.station.Station.{Station}
 use Rattle.rail_base.specs.declared.route.Route.{Route}
@@ -36,6 +36,11 @@ module _ (live : Command → Bool) (d : Station) (routes : List Route) (n : ℕ)
   -- over numbers
   abbrev pub base_left : List (List Lit)
   base_left = map (map (live_numbered live d routes n)) clauses_left
+
+  -- what is left of a clause, over numbers; none where it denies what is dead, and so is true
+  abbrev pub left_of : Clause → Option (List Lit)
+  left_of cl =
+      if denies_dead live cl then None else Some (map (live_numbered live d routes n) (without_dead live cl))
 
 -- the base of the live commands of a design
 abbrev pub live_base : Station → List Route → ℕ → List (List Lit)

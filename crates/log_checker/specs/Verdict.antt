@@ -14,7 +14,7 @@ use Rattle.sat_clause.specs.declared.follow.Follow.TheVariants as follow
 use Rattle.sat_clause.specs.Clauses.{Store, live_clause, without}
 use Rattle.sat_clause.specs.Hints.{follow_of}
 use Rattle.clause_spec.specs.declared.question.BaseKind.{BaseKind}
-use Rattle.clause_spec.specs.declared.question.BaseKind.TheVariants.{Plain, Sorted, Normal}
+use Rattle.clause_spec.specs.declared.question.BaseKind.TheVariants.{Plain, Sorted, Normal, Live}
 use Rattle.clause_spec.specs.declared.question.VariableCounts.{VariableCounts}
 use Rattle.proof_log.specs.declared.line.Line.{Line}
 use Rattle.proof_log.specs.declared.line.Line.TheVariants.{Derive, Refute, Forget}
@@ -35,6 +35,7 @@ may_stand base (evidence.Cone cone) = true
 may_stand Plain (evidence.Bound bound) = false
 may_stand Sorted (evidence.Bound bound) = true
 may_stand Normal (evidence.Bound bound) = false
+may_stand Live (evidence.Bound bound) = true
 
 -- the line, where no variable of a clause that it derives is past the last one, and it may stand in a file on this base
 abbrev pub if_within : BaseKind → ℕ → Option Line → Option Line

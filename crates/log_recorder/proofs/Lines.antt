@@ -27,7 +27,7 @@ use Rattle.bound_spec.specs.declared.Evidence.TheVariants as evidence
 use Rattle.proof_log.specs.declared.head.Head.{Head}
 use Rattle.proof_log.specs.declared.head.Head.TheVariants as heads
 use Rattle.clause_spec.specs.declared.question.BaseKind.{BaseKind}
-use Rattle.clause_spec.specs.declared.question.BaseKind.TheVariants.{Plain, Sorted, Normal}
+use Rattle.clause_spec.specs.declared.question.BaseKind.TheVariants.{Plain, Sorted, Normal, Live}
 use Rattle.proof_log.specs.Heads.{asked_by, head_text, keeps_head}
 use Rattle.proof_log.specs.BoundText.{requirement_words, origin_words, place_words, leg_words, bound_line_words, is_of, keeps_route, keeps_requirement, keeps_origin, keeps_place, keeps_leg, keeps_bound}
 use Rattle.sat_core.specs.Texts.{ended}
@@ -241,6 +241,9 @@ question-apart Sorted version steps h =
 question-apart Normal version steps h =
     let p = both (is_plain version) (is_plain steps) h in
     joined (codes "rcvlog") (codes "3" ∷ decimal version ∷ decimal steps ∷ []) refl (rw (plain-apart version p.0, plain-apart steps p.1) refl)
+question-apart Live version steps h =
+    let p = both (is_plain version) (is_plain steps) h in
+    joined (codes "rcvlog") (codes "5" ∷ decimal version ∷ decimal steps ∷ []) refl (rw (plain-apart version p.0, plain-apart steps p.1) refl)
 
 pub head-apart : (head : Head) → keeps_head head ≡ true → is_one_line (head_text head) ≡ true
 head-apart heads.Unnamed h = refl

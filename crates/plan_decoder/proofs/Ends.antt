@@ -1,6 +1,5 @@
 -- A plan ends by the step by which the values say that all is given.
 use Rattle.std.proofs.Common.{◌≡◌, ℕ, zero, suc, ◌+◌, ◌-◌, ◌≤◌, ◌<◌, inl, Bool, true, false, not, ◌||◌, List, [], ◌∷◌, map, length, refl, sym, ◌∙◌, arith, true≢false}
-use Rattle.std.specs.List.{list_all}
 use Rattle.rail_base.specs.declared.station.Station.{Station}
 use Rattle.rail_base.specs.declared.route.Route.{Route}
 use Rattle.rail_base.specs.declared.plan.Command.{Command}
@@ -8,14 +7,18 @@ use Rattle.rail_base.specs.Numbering.{count_from}
 use Rattle.rail_spec.specs.Plans.{all_commands}
 use Rattle.rail_base.proofs.Members.{In}
 use Rattle.rail_base.proofs.Lists.{in_map, in_count}
-use Rattle.sat_clause.specs.Clauses.{clause_holds}
 use Rattle.sat_core.specs.Models.{value_in}
 use Rattle.clause_spec.specs.Variables.{Variable, Given, By, yes, no, number_of}
-use Rattle.clause_spec.specs.Clauses.{Clause, base_clauses}
-use Rattle.clause_spec.specs.Models.{given_by, given_in, with_step, cut_off, decoded}
+use Rattle.clause_spec.specs.declared.question.BaseKind.{BaseKind}
+use Rattle.clause_spec.specs.Clauses.{Clause}
+use Rattle.clause_spec.specs.Models.{given_by, given_in, with_step, cut_off}
 use Rattle.clause_spec.proofs.Facts.{AllTrue, given_up_to, all_true}
 use Rattle.clause_spec.proofs.Decoded.{New, new}
+use Rattle.base_spec.specs.Bases.{decoded_of, on_plain}
+use Rattle.base_spec.proofs.Alike.{begins_with_plain}
+use Rattle.base_spec.proofs.Models.{by_on_plain}
 use Rattle.plan_decoder.specs.Decoded.{EndsAsSaid}
+use Rattle.plan_decoder.specs.Plans.{AreModel}
 
 -- ---- steps past the first k
 
@@ -75,8 +78,9 @@ module _ (d : Station) (routes : List Route) (n : ℕ) (says : Variable → Bool
           let early = back c k some (given_then c k is.known some (omega arith) by last) in
           true≢false (sym (given_up_to d routes n says all c k (i - 1) is.known (omega arith) (omega arith) early) ∙ is.fresh)
 
-pub ends_as_said : (d : Station) (routes : List Route) (n : ℕ) (values : List Bool) → list_all (clause_holds (value_in values)) (base_clauses d routes n) ≡ true → EndsAsSaid d routes n values (decoded d routes n (value_in values))
-ends_as_said d routes n values holds k some within by =
-    let says : Variable → Bool = λ v. value_in values (number_of d routes n v) in
-    let all = all_true d routes n (value_in values) holds in
-    at_most (given_in d routes n says) 1 n k (λ i low high. none_past d routes n says all k i some (omega arith) (omega arith) by)
+pub ends_as_said : (kind : BaseKind) (d : Station) (routes : List Route) (n : ℕ) (values : List Bool) → AreModel values kind d routes n → EndsAsSaid kind d routes n values (decoded_of kind d routes n (value_in values))
+ends_as_said kind d routes n values holds k some within by =
+    let whole : ℕ → Bool = on_plain kind d routes n (value_in values) in
+    let says : Variable → Bool = λ v. whole (number_of d routes n v) in
+    let all = all_true d routes n whole (begins_with_plain kind d routes n (omega arith) (value_in values) holds) in
+    at_most (given_in d routes n says) 1 n k (λ i low high. none_past d routes n says all k i some (omega arith) (omega arith) (by_on_plain kind d routes n k some within (value_in values) ∙ by))

@@ -1,8 +1,7 @@
 -- Lists that are put together part by part.
-use Rattle.std.proofs.Common.{◌≡◌, ℕ, suc, ◌+◌, ◌-◌, ◌<◌, ◌≤◌, Bool, true, false, cond, List, [], ◌∷◌, ◌++◌, flat_map, filter, refl, sym, ap, ◌∙◌, arith, append-nil}
-use Rattle.std.proofs.lemmas.List.{append_assoc}
+use Rattle.std.proofs.Common.{◌≡◌, ℕ, suc, ◌+◌, ◌-◌, ◌<◌, ◌≤◌, Bool, true, false, cond, List, [], ◌∷◌, ◌++◌, length, get_or, drop, filter, refl, sym, ap, ◌∙◌, arith, append-nil}
+use Rattle.std.proofs.lemmas.List.{append_assoc, drop_more}
 use Rattle.rail_base.specs.Numbering.{count_from}
-use Rattle.rail_base.proofs.Members.{filter-append}
 
 -- the numbers from one on up to n
 abbrev pub rest : ℕ → ℕ → List ℕ
@@ -32,14 +31,18 @@ pub put_all : {Y : Type 0} (xs all : List Y) (part : List ℕ → List Y) (i n :
 put_all xs all part i n h e k = sym (ap (λ ys. xs ++ ys) (ap part (rest_none i n h) ∙ e) ∙ append-nil xs) ∙ k
 
 -- the first of a list, where it passes the test
-pub filter_first : {Y : Type 0} (test : Y → Bool) (y : Y) (ys : List Y) → filter test (y ∷ ys) ≡ cond (test y) (y ∷ []) [] ++ filter test ys
+filter_first : {Y : Type 0} (test : Y → Bool) (y : Y) (ys : List Y) → filter test (y ∷ ys) ≡ cond (test y) (y ∷ []) [] ++ filter test ys
 filter_first {Y} test y ys = go (test y)
   where
     go : (b : Bool) → cond b (y ∷ filter test ys) (filter test ys) ≡ cond b (y ∷ []) [] ++ filter test ys
     go true = refl
     go false = refl
 
--- the members of parts that pass the test
-pub filter_parts : {X Y : Type 0} (test : Y → Bool) (f : X → List Y) (xs : List X) → filter test (flat_map f xs) ≡ flat_map (λ x. filter test (f x)) xs
-filter_parts test f [] = refl
-filter_parts test f (x ∷ xs) = filter-append test (f x) (flat_map f xs) ∙ ap (λ ys. filter test (f x) ++ ys) (filter_parts test f xs)
+-- what is put of one member, and what is left then of those behind it
+pub put_kept : {Y : Type 0} (test : Y → Bool) (old new all xs : List Y) (i : ℕ) (other : Y) → i < length xs → new ≡ old ++ filter test (get_or xs i other ∷ []) → old ++ filter test (drop i xs) ≡ all → new ++ filter test (drop (i + 1) xs) ≡ all
+put_kept test old new all xs i other h e k =
+    let y = get_or xs i other in
+    let behind = drop (i + 1) xs in
+    ap (λ ys. ys ++ filter test behind) e
+    ∙ (append_assoc old (filter test (y ∷ [])) (filter test behind)
+    ∙ (ap (λ ys. old ++ ys) (sym (ap (filter test) (drop_more xs i other h) ∙ filter_first test y behind)) ∙ k))

@@ -1,26 +1,22 @@
 //! How the plan of values is put together, step by step.
 
-ghost use Rattle.std.specs.Prelude.{◌≡◌, ℕ, ◌≤◌, ◌<◌, ◌-◌, ◌++◌, ◌∷◌, [], List, filter, length, take, IfOk, IsFalse};
+ghost use Rattle.std.specs.Prelude.{◌≡◌, true, ◌≤◌, ◌<◌, ◌-◌, ◌++◌, ◌∷◌, [], filter, length, take, IfOk, IsFalse};
 ghost use Rattle.std.specs.Prelude.{IsTrue, OnOk};
-ghost use Rattle.rail_base.specs.declared.station.Station.{Station};
-ghost use Rattle.rail_base.specs.declared.route.Route.{Route};
-ghost use Rattle.rail_spec.specs.Plans.{commands_of};
-ghost use Rattle.clause_spec.specs.Models.{cut_off, given_by, given_in};
-ghost use Rattle.plan_encoding.specs.Numberings.{HasCommand, IsNumberingOf, OfNumbering};
+ghost use Rattle.clause_spec.specs.Models.{cut_off, given_by};
+ghost use Rattle.command_set.specs.Commands.{is_among};
+ghost use Rattle.plan_encoding.specs.Numberings.{OfNumbering};
 ghost use Rattle.plan_decoder.specs.Decoded.{is_new, says, new_in};
 ghost use Rattle.plan_decoder.specs.Plans.{IsDecoded, DecodesRunnable, DecodesInAgreement, DecodesAsSaid};
 
 use plan_encoding::Numbering;
 use rail_base::list::List;
 use rail_base::plan::{Command, Plan};
-use rail_base::route::RouteNo;
-use rail_base::station::TrainNo;
 use sat_core::Assignment;
 use std::alloc::{AllocError, Global};
 
 /// The plan that values of a base's variables give: each step holds the commands that are given by it and not by the
-/// one before, by train and then by route, and empty steps at the end are cut off. The time is linear in the trains
-/// times the routes times the steps.
+/// one before, by train and then by route, and empty steps at the end are cut off. The time is linear in the commands
+/// that the base speaks of times the steps.
 ///
 /// # Errors
 ///
@@ -32,7 +28,7 @@ pub fn decode(alloc: Global, numbering: &Numbering, values: &Assignment) -> Resu
     ensures ends { DecodesAsSaid numbering.now values.now result }
 {
     let mut steps = Vec::new(alloc);
-    for step in 1..=numbering.counts().steps {
+    for step in 1..=numbering.steps().count {
         steps.push(given_in(alloc, numbering, values, step)?)?;
     }
     cut_off(&mut steps);
@@ -43,22 +39,26 @@ pub fn decode(alloc: Global, numbering: &Numbering, values: &Assignment) -> Resu
 
 /// Whether a command is given by a step, which none is by step 0.
 fn is_given(numbering: &Numbering, values: &Assignment, command: Command, step: u32) -> bool
-    requires command { HasCommand numbering.now command }
+    requires command { is_among numbering.now.commands command ≡ true }
     requires step { step ≤ numbering.now.steps }
-    ensures { OfNumbering numbering.now (λ d routes n. result ≡ given_by (says d routes n values.now) command step) }
+    ensures { OfNumbering numbering.now (λ live d routes n.
+        result ≡ given_by (says live d routes n values.now) command step) }
 {
     if step == 0 {
         return false;
     }
-    values.value(numbering.given_lit(command.train, command.route, step).var)
+    match numbering.given_lit(command, step) {
+        Some(lit) => values.value(lit.var),
+        None => false,
+    }
 }
 
 /// Whether a command is given by a step and not by the one before.
 fn is_new(numbering: &Numbering, values: &Assignment, command: Command, step: u32) -> bool
-    requires command { HasCommand numbering.now command }
+    requires command { is_among numbering.now.commands command ≡ true }
     requires at_least_one { 1 ≤ step }
     requires within { step ≤ numbering.now.steps }
-    ensures { OfNumbering numbering.now (λ d routes n. result ≡ is_new d routes n values.now step command) }
+    ensures { OfNumbering numbering.now (λ live d routes n. result ≡ is_new live d routes n values.now step command) }
 {
     is_given(numbering, values, command, step) && !is_given(numbering, values, command, step - 1)
 }
@@ -71,41 +71,14 @@ fn add_if_new(
     step: u32,
     commands: &mut Vec<Command>,
 ) -> Result<(), AllocError>
-    requires command { HasCommand numbering.now command }
+    requires command { is_among numbering.now.commands command ≡ true }
     requires at_least_one { 1 ≤ step }
     requires within { step ≤ numbering.now.steps }
-    ensures { (d : Station) (routes : List Route) (n : ℕ) → IsNumberingOf d routes n numbering.now
-        → OnOk result (commands.new.items ≡ commands.old.items
-        ++ filter (is_new d routes n values.now step) (command ∷ [])) }
+    ensures { OfNumbering numbering.now (λ live d routes n. OnOk result (commands.new.items
+        ≡ commands.old.items ++ filter (is_new live d routes n values.now step) (command ∷ []))) }
 {
     if is_new(numbering, values, command, step) {
         commands.push(command)?;
-    }
-    Ok(())
-}
-
-/// Adds the commands of a train that are new in a step.
-fn add_new(
-    numbering: &Numbering,
-    values: &Assignment,
-    train: TrainNo,
-    step: u32,
-    commands: &mut Vec<Command>,
-) -> Result<(), AllocError>
-    requires first_train { 1 ≤ train.0 }
-    requires last_train { train.0 ≤ numbering.now.trains }
-    requires at_least_one { 1 ≤ step }
-    requires within { step ≤ numbering.now.steps }
-    ensures { (d : Station) (routes : List Route) (n : ℕ) → IsNumberingOf d routes n numbering.now
-        → OnOk result (commands.new.items ≡ commands.old.items
-        ++ filter (is_new d routes n values.now step) (commands_of routes train)) }
-{
-    for route in 1..=numbering.counts().routes {
-        let command = Command {
-            train,
-            route: RouteNo(route),
-        };
-        add_if_new(numbering, values, command, step, commands)?;
     }
     Ok(())
 }
@@ -119,11 +92,12 @@ fn given_in(
 ) -> Result<List<Command>, AllocError>
     requires at_least_one { 1 ≤ step }
     requires within { step ≤ numbering.now.steps }
-    ensures { OfNumbering numbering.now (λ d routes n. IfOk result (λ cs. cs ≡ new_in d routes n values.now step)) }
+    ensures { OfNumbering numbering.now (λ live d routes n.
+        IfOk result (λ cs. cs ≡ new_in live d routes n values.now step)) }
 {
     let mut commands = Vec::new(alloc);
-    for train in 1..=numbering.counts().trains {
-        add_new(numbering, values, TrainNo(train), step, &mut commands)?;
+    for command in numbering.pairs().commands().commands() {
+        add_if_new(numbering, values, *command, step, &mut commands)?;
     }
     Ok(List::from_vec(commands))
 }

@@ -5,14 +5,14 @@ use Rattle.std.proofs.lemmas.List.Elements.{All-append}
 use Rattle.std.proofs.lemmas.Grind.{flat_map-append}
 use Rattle.std.proofs.lemmas.List.Sums.{sum_by_push}
 use Rattle.rail_base.specs.declared.station.Station.{Station}
+use Rattle.rail_base.specs.declared.station.TrainNo.{TrainNo}
 use Rattle.rail_base.specs.declared.route.Route.{Route}
 use Rattle.rail_base.specs.declared.route.RouteNo.{RouteNo}
 use Rattle.rail_base.specs.declared.plan.Command.{Command}
 use Rattle.rail_base.specs.Numbering.{one_to}
 use Rattle.rail_base.specs.Routes.{IsRoute}
 use Rattle.rail_spec.specs.Plans.{route_at, exits, length_mm}
-use Rattle.clause_spec.specs.Variables.{pairs_before}
-use Rattle.clause_spec.specs.Clauses.{onward, chain_length, chains, clearing, wait_clause, waits}
+use Rattle.clause_spec.specs.Clauses.{onward, chain_length, clearing}
 use Rattle.plan_encoding.specs.Families.{waiting}
 use Rattle.plan_encoding.specs.Waiting.{waits_over}
 use Rattle.std.proofs.Common.{cond, ◌||◌, ◌==◌, eqb, eqb-true, ap₂, subst, filter}
@@ -28,6 +28,9 @@ use Rattle.plan_encoding.specs.Tables.{going_on}
 use Rattle.std.proofs.Common.{Vec, Global, inl}
 use Rattle.std.specs.Prelude.{Result, Ok, Err, IfOk}
 use Rattle.std.specs.declared.alloc.AllocError.{AllocError}
+use Rattle.live_clause_spec.specs.Listed.{live_chains, live_onward, live_wait_clause, live_waits}
+use Rattle.plan_encoding.specs.declared.encoder.Encoder.{Encoder}
+use Rattle.plan_encoding.specs.Encoders.{HasCommands, IsCommand}
 use Rattle.plan_encoding.proofs.Tabled.{filter_both, route_known}
 use Rattle.plan_encoding.proofs.Emission.{Next}
 use Rattle.std.proofs.lemmas.List.{drop_more}
@@ -35,15 +38,15 @@ use Rattle.std.proofs.lemmas.List.{drop_more}
 pub one_longer : (table : List Route) (before : List RouteNo) (w : RouteNo) → chain_length table (before ++ w ∷ []) ≡ chain_length table before + length_mm (route_at table w)
 one_longer table before w = sum_by_push (λ v. length_mm (route_at table v)) before w
 
-module _ (table : List Route) (bound : ℕ) (before : List RouteNo) (w : RouteNo) where
-  stop_at : (more : ℕ) → (not (exits (route_at table w)) && nat_lt (chain_length table (before ++ w ∷ [])) bound) ≡ false → chains table more bound before w ≡ []
+module _ (live : Command → Bool) (table : List Route) (t : TrainNo) (bound : ℕ) (before : List RouteNo) (w : RouteNo) where
+  stop_at : (more : ℕ) → (not (exits (route_at table w)) && nat_lt (chain_length table (before ++ w ∷ [])) bound) ≡ false → live_chains live table t more bound before w ≡ []
   stop_at zero h = refl
-  stop_at (suc more) h = ap (λ b. if b then (before ++ w ∷ [], w) ∷ flat_map (chains table more bound (before ++ w ∷ [])) (onward table (before ++ w ∷ []) w) else []) h
+  stop_at (suc more) h = ap (λ b. if b then (before ++ w ∷ [], w) ∷ flat_map (live_chains live table t more bound (before ++ w ∷ [])) (live_onward live table t (before ++ w ∷ []) w) else []) h
 
-  pub stop_exit : (more : ℕ) → exits (route_at table w) ≡ true → chains table more bound before w ≡ []
+  pub stop_exit : (more : ℕ) → exits (route_at table w) ≡ true → live_chains live table t more bound before w ≡ []
   stop_exit more h = stop_at more (ap (λ b. not b && nat_lt (chain_length table (before ++ w ∷ [])) bound) h)
 
-  pub stop_long : (more : ℕ) → bound ≤ chain_length table before + length_mm (route_at table w) → chains table more bound before w ≡ []
+  pub stop_long : (more : ℕ) → bound ≤ chain_length table before + length_mm (route_at table w) → live_chains live table t more bound before w ≡ []
   stop_long more h = stop_at more (go (not (exits (route_at table w))) (nat_lt (chain_length table (before ++ w ∷ [])) bound) refl)
     where
       go : (a b : Bool) → nat_lt (chain_length table (before ++ w ∷ [])) bound ≡ b → (a && b) ≡ false
@@ -52,11 +55,11 @@ module _ (table : List Route) (bound : ℕ) (before : List RouteNo) (w : RouteNo
       go false b p = refl
 
   pub go_on : (more : ℕ) → 1 ≤ more → exits (route_at table w) ≡ false → chain_length table before + length_mm (route_at table w) < bound
-      → chains table more bound before w ≡ (before ++ w ∷ [], w) ∷ flat_map (chains table (more - 1) bound (before ++ w ∷ [])) (onward table (before ++ w ∷ []) w)
+      → live_chains live table t more bound before w ≡ (before ++ w ∷ [], w) ∷ flat_map (live_chains live table t (more - 1) bound (before ++ w ∷ [])) (live_onward live table t (before ++ w ∷ []) w)
   go_on zero p x l = absurd (omega arith)
   go_on (suc more) p x l =
-      ap (λ b. if b then (before ++ w ∷ [], w) ∷ flat_map (chains table more bound (before ++ w ∷ [])) (onward table (before ++ w ∷ []) w) else []) (yes_both x (le-leb _ _ (let k = one_longer table before w in omega arith)))
-      ∙ ap (λ m. (before ++ w ∷ [], w) ∷ flat_map (chains table m bound (before ++ w ∷ [])) (onward table (before ++ w ∷ []) w)) (back more)
+      ap (λ b. if b then (before ++ w ∷ [], w) ∷ flat_map (live_chains live table t more bound (before ++ w ∷ [])) (live_onward live table t (before ++ w ∷ []) w) else []) (yes_both x (le-leb _ _ (let k = one_longer table before w in omega arith)))
+      ∙ ap (λ m. (before ++ w ∷ [], w) ∷ flat_map (live_chains live table t m bound (before ++ w ∷ [])) (live_onward live table t (before ++ w ∷ []) w)) (back more)
     where
       back : (m : ℕ) → m ≡ suc m - 1
       back m = omega arith
@@ -64,58 +67,59 @@ module _ (table : List Route) (bound : ℕ) (before : List RouteNo) (w : RouteNo
       yes_both : {a b : Bool} → a ≡ false → b ≡ true → (not a && b) ≡ true
       yes_both p q = grind arith
 
-module _ (d : Station) (table : List Route) (n : ℕ) (e c : Command) where
+module _ (live : Command → Bool) (d : Station) (table : List Route) (n : ℕ) (e c : Command) where
   -- what is said of a chain, and then of those that go on from it
-  pub next_chain : (bound more : ℕ) (before chain ws : List RouteNo) (w : RouteNo) → 1 ≤ more → exits (route_at table w) ≡ false → chain_length table before + length_mm (route_at table w) < bound → chain ≡ before ++ w ∷ [] → ws ≡ onward table chain w
-      → Next (waits_over d table n e c (chains table more bound before w)) (map (waiting e c chain ws) (one_to (n - 1))) (waits_over d table n e c (flat_map (chains table (more - 1) bound (before ++ w ∷ [])) ws))
+  pub next_chain : (bound more : ℕ) (before chain ws : List RouteNo) (w : RouteNo) → 1 ≤ more → exits (route_at table w) ≡ false → chain_length table before + length_mm (route_at table w) < bound → chain ≡ before ++ w ∷ [] → ws ≡ live_onward live table e.train chain w
+      → Next (waits_over live d table n e c (live_chains live table e.train more bound before w)) (map (waiting e c chain ws) (one_to (n - 1))) (waits_over live d table n e c (flat_map (live_chains live table e.train (more - 1) bound (before ++ w ∷ [])) ws))
   next_chain bound more before chain ws w p x l is all = record {
     is =
-        ap (waits_over d table n e c) (go_on table bound before w more p x l ∙ (ap (λ vs. (before ++ w ∷ [], w) ∷ flat_map (chains table (more - 1) bound (before ++ w ∷ [])) vs) (sym (all ∙ ap (λ ch. onward table ch w) is)) ∙ ap (λ ch. (ch, w) ∷ flat_map (chains table (more - 1) bound (before ++ w ∷ [])) ws) (sym is)))
-        ∙ ap (λ vs. map (waiting e c chain vs) (one_to (n - 1)) ++ waits_over d table n e c (flat_map (chains table (more - 1) bound (before ++ w ∷ [])) ws)) (sym all);
+        ap (waits_over live d table n e c) (go_on live table e.train bound before w more p x l ∙ (ap (λ vs. (before ++ w ∷ [], w) ∷ flat_map (live_chains live table e.train (more - 1) bound (before ++ w ∷ [])) vs) (sym (all ∙ ap (λ ch. live_onward live table e.train ch w) is)) ∙ ap (λ ch. (ch, w) ∷ flat_map (live_chains live table e.train (more - 1) bound (before ++ w ∷ [])) ws) (sym is)))
+        ∙ ap (λ vs. map (waiting e c chain vs) (one_to (n - 1)) ++ waits_over live d table n e c (flat_map (live_chains live table e.train (more - 1) bound (before ++ w ∷ [])) ws)) (sym all);
   }
 
   -- what is said of the chains that go on with one route, and then of the others
   pub next_further : (bound more : ℕ) (long chain ws : List RouteNo) (i : ℕ) (other : RouteNo) → chain ≡ long → i < length ws
-      → Next (waits_over d table n e c (flat_map (chains table more bound long) (drop i ws))) (waits_over d table n e c (chains table more bound chain (get_or ws i other))) (waits_over d table n e c (flat_map (chains table more bound long) (drop (i + 1) ws)))
+      → Next (waits_over live d table n e c (flat_map (live_chains live table e.train more bound long) (drop i ws))) (waits_over live d table n e c (live_chains live table e.train more bound chain (get_or ws i other))) (waits_over live d table n e c (flat_map (live_chains live table e.train more bound long) (drop (i + 1) ws)))
   next_further bound more long chain ws i other is h = record {
     is =
-        ap (λ vs. waits_over d table n e c (flat_map (chains table more bound long) vs)) (drop_more ws i other h)
-        ∙ (flat_map-append (λ ch. map (wait_clause d table n e c ch) (one_to (n - 1))) (chains table more bound long (get_or ws i other)) (flat_map (chains table more bound long) (drop (i + 1) ws))
-        ∙ ap (λ ch. waits_over d table n e c (chains table more bound ch (get_or ws i other)) ++ waits_over d table n e c (flat_map (chains table more bound long) (drop (i + 1) ws))) (sym is));
+        ap (λ vs. waits_over live d table n e c (flat_map (live_chains live table e.train more bound long) vs)) (drop_more ws i other h)
+        ∙ (flat_map-append (λ ch. map (live_wait_clause live d table n e c ch) (one_to (n - 1))) (live_chains live table e.train more bound long (get_or ws i other)) (flat_map (live_chains live table e.train more bound long) (drop (i + 1) ws))
+        ∙ ap (λ ch. waits_over live d table n e c (live_chains live table e.train more bound ch (get_or ws i other)) ++ waits_over live d table n e c (flat_map (live_chains live table e.train more bound long) (drop (i + 1) ws))) (sym is));
   }
 
--- one more route in the table
-pub all_longer : (table : List Route) (before : List RouteNo) (w : RouteNo) → All (IsRoute table) before → IsRoute table w → All (IsRoute table) (before ++ w ∷ [])
-all_longer table before w h k = All-append (IsRoute table) before (w ∷ []) h (one table w k)
+-- one more route of the train's commands
+pub all_longer : (f : Encoder) (t : TrainNo) (before : List RouteNo) (w : RouteNo) → HasCommands f t before → IsCommand f (record { train = t; route = w }) → HasCommands f t (before ++ w ∷ [])
+all_longer f t before w h k = All-append (λ r. IsCommand f (record { train = t; route = r })) before (w ∷ []) h one
   where
-    one : (table : List Route) (w : RouteNo) → IsRoute table w → (i : ℕ) (x : RouteNo) → i < 1 → IsRoute table (get_or (w ∷ []) i x)
-    one table w k zero x l = k
-    one table w k (suc i) x l = absurd (omega arith)
+    one : (i : ℕ) (x : RouteNo) → i < 1 → IsCommand f (record { train = t; route = get_or (w ∷ []) i x })
+    one zero x l = k
+    one (suc i) x l = absurd (omega arith)
 
--- with one step a chain has no clause
-pub no_waits : (d : Station) (table : List Route) (cs : List Command) → flat_map (λ e. flat_map (waits d table 1) (pairs_before d table e)) cs ≡ []
-no_waits d table [] = refl
-no_waits d table (e ∷ cs) = ap (λ xs. xs ++ flat_map (λ e. flat_map (waits d table 1) (pairs_before d table e)) cs) (of (pairs_before d table e)) ∙ no_waits d table cs
-  where
-    over : (e c : Command) (chs : List (List RouteNo × RouteNo)) → waits_over d table 1 e c chs ≡ []
-    over e c [] = refl
-    over e c (x ∷ chs) = over e c chs
+-- routes of commands are in the table
+pub in_table : (f : Encoder) (t : TrainNo) (rs : List RouteNo) → HasCommands f t rs → All (IsRoute f.interlocking.now.routes) rs
+in_table f t rs h = λ i x l. (h i x l).route
 
-    of : (ps : List (Command × Command)) → flat_map (waits d table 1) ps ≡ []
-    of [] = refl
-    of (p ∷ ps) = ap (λ xs. xs ++ flat_map (waits d table 1) ps) (over p.0 p.1 (chains table (length table) (clearing d table 1 p.0 p.1) [] p.0.route)) ∙ of ps
+module _ (live : Command → Bool) (d : Station) (table : List Route) where
+  -- with one step a chain has no clause
+  pub no_waits : (ps : List (Command × Command)) → flat_map (live_waits live d table 1) ps ≡ []
+  no_waits [] = refl
+  no_waits (p ∷ ps) = ap (λ xs. xs ++ flat_map (live_waits live d table 1) ps) (none p.0 p.1 (live_chains live table p.0.train (length table) (clearing d table 1 p.0 p.1) [] p.0.route)) ∙ no_waits ps
+    where
+      none : (e c : Command) (chs : List (List RouteNo × RouteNo)) → waits_over live d table 1 e c chs ≡ []
+      none e c [] = refl
+      none e c (x ∷ chs) = none e c chs
 
--- nor has any where the first command's route exits
-pub no_waits_for : (d : Station) (table : List Route) (n : ℕ) (e : Command) (rivals : List Command) → exits (route_at table e.route) ≡ true → flat_map (waits d table n) (map (λ c. (e, c)) rivals) ≡ []
-no_waits_for d table n e [] h = refl
-no_waits_for d table n e (c ∷ cs) h =
-    ap (λ xs. xs ++ flat_map (waits d table n) (map (λ c. (e, c)) cs)) (ap (waits_over d table n e c) (stop_exit table (clearing d table n e c) [] e.route (length table) h))
-    ∙ no_waits_for d table n e cs h
+  -- nor has any where the first command's route exits
+  pub no_waits_for : (n : ℕ) (e : Command) (rivals : List Command) → exits (route_at table e.route) ≡ true → flat_map (live_waits live d table n) (map (λ c. (e, c)) rivals) ≡ []
+  no_waits_for n e [] h = refl
+  no_waits_for n e (c ∷ cs) h =
+      ap (λ xs. xs ++ flat_map (live_waits live d table n) (map (λ c. (e, c)) cs)) (ap (waits_over live d table n e c) (stop_exit live table e.train (clearing d table n e c) [] e.route (length table) h))
+      ∙ no_waits_for n e cs h
 
--- nor where there is no rival
-pub no_waits_of_none : (d : Station) (table : List Route) (n : ℕ) (e : Command) (rivals : List Command) → (length rivals == 0) ≡ true → flat_map (waits d table n) (map (λ c. (e, c)) rivals) ≡ []
-no_waits_of_none d table n e [] h = refl
-no_waits_of_none d table n e (c ∷ cs) h = let l = eqb-true (suc (length cs)) 0 h in absurd (omega arith)
+  -- nor where there is no rival
+  pub no_waits_of_none : (n : ℕ) (e : Command) (rivals : List Command) → (length rivals == 0) ≡ true → flat_map (live_waits live d table n) (map (λ c. (e, c)) rivals) ≡ []
+  no_waits_of_none n e [] h = refl
+  no_waits_of_none n e (c ∷ cs) h = let l = eqb-true (suc (length cs)) 0 h in absurd (omega arith)
 
 -- ---- with which routes a chain goes on
 

@@ -1,4 +1,5 @@
 -- Clauses that are listed part by part.
+use Rattle.live_clause_spec.specs.Variables.{live_numbered}
 use Rattle.std.proofs.Common.{◌≡◌, ℕ, ◌+◌, ◌-◌, ◌<◌, Bool, true, false, List, [], ◌∷◌, ◌++◌, if◌then◌else◌, length, drop, get_or, nat_lt, arith, refl, sym, ap, subst, ◌∙◌, map, flat_map, Some, None, append-nil}
 use Rattle.std.specs.Prelude.{Result, Ok, Err, IfErr}
 use Rattle.std.specs.Result.{IsErrAnd}
@@ -11,10 +12,9 @@ use Rattle.plan_encoding.specs.declared.sink.BaseFault.TheVariants.{TooLarge, Me
 use Rattle.plan_encoding.specs.declared.encoder.Encoder.{Encoder}
 use Rattle.clause_spec.specs.Clauses.{Clause, literals, past_limit}
 use Rattle.plan_encoding.specs.Sinks.{SinkView, Emission, Emitted, TooMany, with_clause, emitted, FaultSays}
-use Rattle.clause_spec.specs.Variables.{numbered}
 use Rattle.normal_clause_spec.specs.Variables.{normal_numbered}
 use Rattle.normal_clause_spec.specs.Clauses.{NormalClause}
-use Rattle.plan_encoding.specs.Encoders.{numbered_clauses, over}
+use Rattle.plan_encoding.specs.Encoders.{among, numbered_clauses, over}
 use Rattle.plan_encoding.specs.Normal.{normal_numbered_clauses}
 use Rattle.rail_base.proofs.Lists.{count_next}
 
@@ -80,17 +80,17 @@ module _ {L : Type 0} (num : L → Lit) (now later : List (List L)) (cl : List L
 -- of clauses of the plain base
 module _ (f : Encoder) (now part later : List Clause) (n : Next now part later) where
   pub emitted_next : (old new : SinkView) (all : Emission) → emitted old (numbered_clauses f part) ≡ Emitted new → emitted old (numbered_clauses f now) ≡ all → emitted new (numbered_clauses f later) ≡ all
-  emitted_next = part_listed (over f numbered) now part later n
+  emitted_next = part_listed (among f live_numbered) now part later n
 
   pub next_fails : (old : SinkView) (e : BaseFault) (all : Emission) → FaultSays (emitted old (numbered_clauses f part)) e → emitted old (numbered_clauses f now) ≡ all → FaultSays all e
-  next_fails = part_fails (over f numbered) now part later n
+  next_fails = part_fails (among f live_numbered) now part later n
 
-module _ (f : Encoder) (now later : List Clause) (cl : Clause) (n : Next now (cl ∷ []) later) (ls : List Lit) (is : ls ≡ map (over f numbered) cl) where
+module _ (f : Encoder) (now later : List Clause) (cl : Clause) (n : Next now (cl ∷ []) later) (ls : List Lit) (is : ls ≡ map (among f live_numbered) cl) where
   pub next_one : (old new : SinkView) (all : Emission) → emitted old (ls ∷ []) ≡ Emitted new → emitted old (numbered_clauses f now) ≡ all → emitted new (numbered_clauses f later) ≡ all
-  next_one = clause_listed (over f numbered) now later cl n ls is
+  next_one = clause_listed (among f live_numbered) now later cl n ls is
 
   pub next_one_fails : (old : SinkView) (e : BaseFault) (all : Emission) → FaultSays (emitted old (ls ∷ [])) e → emitted old (numbered_clauses f now) ≡ all → FaultSays all e
-  next_one_fails = clause_fails (over f numbered) now later cl n ls is
+  next_one_fails = clause_fails (among f live_numbered) now later cl n ls is
 
 -- of clauses of normal plans
 module _ (f : Encoder) (now part later : List NormalClause) (n : Next now part later) where

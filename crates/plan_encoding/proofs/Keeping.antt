@@ -1,7 +1,7 @@
--- The clauses of normal plans: how many variables there are, and the commands that can keep one from a step.
-use Rattle.std.proofs.Common.{◌≡◌, ℕ, zero, suc, ◌+◌, ◌-◌, ◌*◌, ◌≤◌, ◌⊎◌, inl, inr, Bool, true, false, cond, not, ◌&&◌, ◌==◌, if◌then◌else◌, List, [], ◌∷◌, ◌++◌, map, filter, flat_map, length, refl, sym, ap, ap₂, subst, ◌∙◌, arith, eq-eqb, eqb-true}
+-- The clauses of normal plans, and the commands that can keep one from a step.
+use Rattle.live_clause_spec.specs.Variables.{live_numbered}
+use Rattle.std.proofs.Common.{◌≡◌, ℕ, zero, suc, ◌+◌, ◌-◌, ◌≤◌, ◌⊎◌, inl, inr, Bool, true, false, cond, not, ◌&&◌, ◌==◌, if◌then◌else◌, List, [], ◌∷◌, ◌++◌, map, filter, flat_map, length, refl, sym, ap, ap₂, subst, ◌∙◌, arith, eq-eqb, eqb-true}
 use Rattle.std.specs.Prelude.{All}
-use Rattle.std.proofs.lemmas.Nat.{mul-le}
 use Rattle.std.proofs.lemmas.List.{map-append}
 use Rattle.sat_clause.specs.declared.lit.Lit.{Lit}
 use Rattle.rail_base.specs.declared.station.Station.{Station}
@@ -14,31 +14,18 @@ use Rattle.rail_base.specs.Stations.{trains}
 use Rattle.rail_base.proofs.Members.{false_unless}
 use Rattle.rail_base.proofs.Lists.{in_append, in_map_back, in_filter_back}
 use Rattle.rail_spec.specs.Plans.{all_commands, commands_of, goes_on, is_train, route_at, route_numbers}
-use Rattle.clause_spec.specs.declared.question.BaseKind.TheVariants.{Plain}
-use Rattle.clause_spec.specs.Variables.{Given, Literal, if_given, no, numbered, pairs, variable_count}
+use Rattle.clause_spec.specs.Variables.{Given, Literal, if_given, no, numbered}
 use Rattle.clause_spec.specs.Clauses.{leading_to}
-use Rattle.clause_spec.proofs.Few.{few_pairs}
-use Rattle.contending.proofs.Sharing.{filter_parts}
+use Rattle.command_set.proofs.Lists.{filter_parts}
 use Rattle.normal_clause_spec.specs.Variables.{is_in, is_not_in, normal_numbered, of_base}
-use Rattle.normal_clause_spec.specs.Clauses.{can_keep, keepers, leaders, not_before}
+use Rattle.normal_clause_spec.specs.Clauses.{can_keep, exactly, keepers, kept, leaders, normal_clauses, not_before}
 use Rattle.route_keepers.specs.Keepers.{keepers_of}
 use Rattle.plan_encoding.specs.declared.encoder.Encoder.{Encoder}
-use Rattle.plan_encoding.specs.declared.normal.NormalTables.{NormalTables}
-use Rattle.plan_encoding.specs.declared.numbering.Base.{Base}
-use Rattle.plan_encoding.specs.Bases.{IsBaseOf}
-use Rattle.plan_encoding.specs.Encoders.{IsCommand, over, station, table, written}
-use Rattle.plan_encoding.specs.Normal.{before_it, commands_on, new_clause, normal_written}
-use Rattle.plan_encoding.proofs.Tabled.{all_by_members, all_known, command_known, route_known}
-
--- ---- numbers
-
--- of up to 128 trains, 2,000 routes and 256 steps, and with as many pairs as a base may have
-pub variables_few : (d : Station) (routes : List Route) (n : ℕ) (b : Base) → IsBaseOf Plain d routes n b → length d.trains ≤ 128 → length routes ≤ 2000 → n ≤ 256 → variable_count d routes n ≤ 73536256
-variables_few d routes n b is few_trains few_routes few_steps =
-    let commands : length d.trains * length routes ≤ 128 * 2000 = mul-le (length d.trains) (length routes) 128 2000 few_trains few_routes in
-    let given : length d.trains * length routes * n ≤ 256000 * 256 = mul-le (length d.trains * length routes) n 256000 256 (omega arith) few_steps in
-    let contending : 2 * length (pairs d routes) ≤ 16000000 = few_pairs d routes n 16000000 is.few in
-    omega arith
+use Rattle.clause_spec.proofs.Places.{command_from, train_in}
+use Rattle.plan_encoding.proofs.Over.{if_given_as, no_as, of_design}
+use Rattle.plan_encoding.specs.Encoders.{among, commands, IsCommand, over, station, table, written}
+use Rattle.plan_encoding.specs.Normal.{all_exact, all_kept, before_it, commands_on, new_clause, normal_written}
+use Rattle.plan_encoding.proofs.Tabled.{all_by_members, command_known}
 
 -- ---- clauses of a command and a step
 
@@ -56,12 +43,14 @@ module _ (d : Station) (routes : List Route) (n : ℕ) where
       ap (not_before d routes n c) e ∙ sym (ap (λ m. (is_not_in c (suc (suc i)) ∷ of_base (no (Given c m)) ∷ []) ∷ []) e)
 
 -- the literals of the clause that a command given by a step, and not by the one before, is given in it
-pub new_is : (f : Encoder) (c : Command) (i : ℕ) (start one two all : List Lit) (a z : Lit) → start ≡ [] → one ≡ start ++ a ∷ [] → two ≡ one ++ written f (if_given c (i - 1)) → all ≡ two ++ z ∷ []
-    → a ≡ over f numbered (no (Given c i)) → z ≡ over f normal_numbered (is_in c i) → all ≡ normal_written f (new_clause c i)
-new_is f c i start one two all a z s e g h j k =
+pub new_is : (f : Encoder) → commands f ≡ all_commands (station f) (table f) → (c : Command) (i : ℕ) → IsCommand f c → (start one two all : List Lit) (a z : Lit) → start ≡ [] → one ≡ start ++ a ∷ [] → two ≡ one ++ written f (if_given c (i - 1)) → all ≡ two ++ z ∷ []
+    → a ≡ among f live_numbered (no (Given c i)) → z ≡ over f normal_numbered (is_in c i) → all ≡ normal_written f (new_clause c i)
+new_is f every c i known start one two all a z s e g h j k =
+    let m = of_design f c known in
     h ∙ (ap (λ xs. xs ++ z ∷ []) (g ∙ ap (λ xs. xs ++ written f (if_given c (i - 1))) (e ∙ ap (λ xs. xs ++ a ∷ []) s))
-    ∙ (ap₂ (λ x y. x ∷ written f (if_given c (i - 1)) ++ y ∷ []) j k
-    ∙ sym (ap (λ xs. over f numbered (no (Given c i)) ∷ xs) (map-append (over f normal_numbered) (map of_base (if_given c (i - 1))) (is_in c i ∷ []) ∙ ap (λ xs. xs ++ over f normal_numbered (is_in c i) ∷ []) (based f.interlocking.now.design.station f.interlocking.now.routes f.steps.count (if_given c (i - 1)))))))
+    ∙ (ap₂ (λ x y. x ∷ written f (if_given c (i - 1)) ++ y ∷ []) (j ∙ no_as f every c i m) k
+    ∙ (ap (λ xs. over f numbered (no (Given c i)) ∷ xs ++ over f normal_numbered (is_in c i) ∷ []) (if_given_as f every c (i - 1) m)
+    ∙ sym (ap (λ xs. over f numbered (no (Given c i)) ∷ xs) (map-append (over f normal_numbered) (map of_base (if_given c (i - 1))) (is_in c i ∷ []) ∙ ap (λ xs. xs ++ over f normal_numbered (is_in c i) ∷ []) (based (station f) (table f) f.steps.count (if_given c (i - 1))))))))
 
 -- ---- keepers
 
@@ -111,18 +100,17 @@ module _ (routes : List Route) (c : Command) where
 -- ---- the commands of which one is given in the step before
 
 -- they are commands of the encoder
-pub known_before : (f : Encoder) (c : Command) → IsCommand f c → (cs : List Command) → cs ≡ before_it f c → All (IsCommand f) cs
-known_before f c known cs is = subst (λ (xs : List Command). All (IsCommand f) xs) (sym is) (all_by_members (IsCommand f) (before_it f c) (λ e m. go e (in_append e (over f leaders c) (over f keepers c) m)))
+pub known_before : (f : Encoder) → commands f ≡ all_commands (station f) (table f) → (c : Command) → IsCommand f c → (cs : List Command) → cs ≡ before_it f c → All (IsCommand f) cs
+known_before f every c known cs is = subst (λ (xs : List Command). All (IsCommand f) xs) (sym is) (all_by_members (IsCommand f) (before_it f c) (λ e m. command_known f e (subst (λ (xs : List Command). In e xs) (sym every) (go e (in_append e (over f leaders c) (over f keepers c) m)))))
   where
-    go : (e : Command) → In e (over f leaders c) ⊎ In e (over f keepers c) → IsCommand f e
+    go : (e : Command) → In e (over f leaders c) ⊎ In e (over f keepers c) → In e (all_commands (station f) (table f))
     go e (inl m) =
         let led : RouteNo → Command = λ w. record { train = c.train; route = w } in
         let back = in_map_back led (leading_to (table f) (route_at (table f) c.route).start) e m in
         let kept = in_filter_back (λ (q : RouteNo). goes_on (route_at (table f) q).finish (route_at (table f) c.route).start) (route_numbers (table f)) back.0 back.1 in
-        subst (IsCommand f) back.2 (record { train = known.train; route = route_known (table f) back.0 kept.0 })
-    go e (inr m) = command_known f e (in_filter_back (keeps (table f) c) (all_commands (station f) (table f)) e m).0
+        subst (λ (x : Command). In x (all_commands (station f) (table f))) back.2 (command_from (station f) (table f) c.train back.0 (train_in (station f) c.train known.train.0 known.train.1) kept.0)
+    go e (inr m) = (in_filter_back (keeps (table f) c) (all_commands (station f) (table f)) e m).0
 
--- ---- what the tables hold
-
-pub listed_commands : (t : NormalTables) (cs : List Command) → cs ≡ t.commands.items → All (IsCommand t.normal.encoder) cs
-listed_commands t cs e = subst (λ (xs : List Command). All (IsCommand t.normal.encoder) xs) (sym (e ∙ t.every_command)) (all_known t.normal.encoder)
+-- the clauses of all commands of the encoder are all of normal plans
+pub normal_are : (f : Encoder) → commands f ≡ all_commands (station f) (table f) → all_exact f ++ all_kept f ≡ over f normal_clauses
+normal_are f every = ap (λ (cs : List Command). flat_map (over f exactly) cs ++ flat_map (over f kept) cs) every

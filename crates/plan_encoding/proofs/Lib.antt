@@ -8,7 +8,13 @@ pub mod Released
 pub mod Starting
 pub mod Ordering
 pub mod Counting
+pub mod BeforeSteps
 pub mod Based
 pub mod Beginning
 pub mod Behind
 pub mod Keeping
+pub mod Over
+pub mod Placed
+pub mod Excluding
+pub mod OfKinds
+pub mod Lefts

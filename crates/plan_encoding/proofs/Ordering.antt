@@ -1,20 +1,23 @@
 -- The numbers of pairs, in their order.
+use Rattle.live_clause_spec.specs.Variables.{live_number, live_pairs}
+use Rattle.command_set.specs.Commands.{AreCommandsOf, is_among}
+use Rattle.command_set.proofs.Tests.{set_differs}
+use Rattle.live_contending.proofs.Distinct.{from_distinct}
+use Rattle.live_contending.proofs.Listed.{set_by_firsts}
+use Rattle.plan_encoding.proofs.Tabled.{each_pair}
 use Rattle.std.proofs.Common.{◌≡◌, ℕ, zero, suc, ◌+◌, ◌*◌, ◌≤◌, ◌<◌, ◌⊎◌, inl, inr, Bool, true, if◌then◌else◌, List, [], ◌∷◌, ◌++◌, map, flat_map, filter, length, take, drop, get_or, refl, sym, ap, subst, ◌∙◌, arith, length-append, append-nil}
-use Rattle.std.proofs.lemmas.List.{append_assoc, map-append, take-append-drop, drop_more}
+use Rattle.std.proofs.lemmas.List.{append_assoc, map-append, take-append-drop, take_all, drop_more}
 use Rattle.std.proofs.lemmas.Grind.{flat_map-append}
 use Rattle.std.proofs.lemmas.Nat.{mul-le}
 use Rattle.rail_base.specs.declared.station.Station.{Station}
-use Rattle.rail_base.specs.declared.station.TrainNo.{TrainNo}
 use Rattle.rail_base.specs.declared.route.Route.{Route}
-use Rattle.rail_base.specs.declared.route.RouteNo.{RouteNo}
 use Rattle.rail_base.specs.declared.plan.Command.{Command}
-use Rattle.rail_base.specs.Numbering.{one_to, before_first}
+use Rattle.rail_base.specs.Numbering.{before_first}
 use Rattle.rail_base.specs.Members.{In, Differ}
-use Rattle.rail_base.specs.Stations.{trains}
 use Rattle.rail_base.proofs.Members.{and_left, and_right, and_both, false_unless}
-use Rattle.rail_base.proofs.Lists.{in_append, in_map_back, in_flat_map_back, length-map, pairs_across, pairs_count, pairs_filter, pairs_flat_map, pairs_map}
-use Rattle.rail_spec.specs.Plans.{all_commands, commands_of, contend, is_command, route_numbers}
-use Rattle.clause_spec.specs.Variables.{Before, is_pair, number_of, pairs, pairs_before}
+use Rattle.rail_base.proofs.Lists.{in_append, in_map_back, in_flat_map_back, length-map, pairs_across, pairs_filter}
+use Rattle.rail_spec.specs.Plans.{contend, is_command}
+use Rattle.clause_spec.specs.Variables.{Before, is_pair}
 use Rattle.clause_spec.proofs.Steps.{is_command_same, is_command_self}
 
 -- the members before the first that passes, which is named
@@ -47,79 +50,66 @@ taken_more {X} xs i other h = ap (λ n. take n xs) (next i) ∙ go xs i h
     go (y ∷ ys) zero l = refl
     go (y ∷ ys) (suc j) l = ap (λ zs. y ∷ zs) (go ys j (omega arith))
 
-module _ (d : Station) (routes : List Route) where
+-- the pairs of the first commands
+abbrev pub pairs_to : List Command → List Route → ℕ → List (Command × Command)
+pairs_to cs routes i = flat_map (each_pair routes cs) (take i cs)
+
+module _ (cs : List Command) (d : Station) (routes : List Route) (are : AreCommandsOf d routes cs) where
   -- no command stands twice
-  differ : Differ (all_commands d routes)
-  differ =
-      let named : ℕ → TrainNo = λ t. record { 0 = t } in
-      let route : ℕ → RouteNo = λ r. record { 0 = r } in
-      let earlier : TrainNo → TrainNo → Type 0 = λ t u. t.0 < u.0 in
-      let lower : RouteNo → RouteNo → Type 0 = λ r q. r.0 < q.0 in
-      let unlike : Command → Command → Type 0 = λ e c. e ≡ c → ⊥ in
-      pairs_flat_map earlier unlike (commands_of routes) (trains d) (pairs_map earlier (λ (a b : ℕ). a < b) named (one_to (length d.trains)) (λ a b h. h) (pairs_count 1 (length d.trains)))
-      (λ t m. pairs_map unlike lower (λ r. record { train = t; route = r }) (route_numbers routes) (λ r q h e. let k : r.0 ≡ q.0 = ap (λ (c : Command). c.route.0) e in absurd (omega arith))
-      (pairs_map lower (λ (a b : ℕ). a < b) route (one_to (length routes)) (λ a b h. h) (pairs_count 1 (length routes))))
-      (λ t u e c m n h y z same.
-      let a = in_map_back (λ (r : RouteNo). record { train = t; route = r }) (route_numbers routes) e y in
-      let b = in_map_back (λ (r : RouteNo). record { train = u; route = r }) (route_numbers routes) c z in
-      let x : t.0 ≡ e.train.0 = ap (λ (c : Command). c.train.0) a.2 in
-      let w : u.0 ≡ c.train.0 = ap (λ (c : Command). c.train.0) b.2 in
-      let v : e.train.0 ≡ c.train.0 = ap (λ (c : Command). c.train.0) same in
-      absurd (omega arith))
+  differ : Differ cs
+  differ = from_distinct cs (set_differs cs d routes are)
 
-  -- the pairs of the first commands
-  abbrev pub pairs_to : ℕ → List (Command × Command)
-  pairs_to i = flat_map (pairs_before d routes) (take i (all_commands d routes))
+  module _ (i j : ℕ) (e c : Command) (other some : Command) (is : get_or cs i other ≡ e) (within : i < length cs)
+      (is_rival : get_or (filter (contend routes e) cs) j some ≡ c) (rival : j < length (filter (contend routes e) cs)) where
+    commands_parted : cs ≡ take i cs ++ e ∷ drop (i + 1) cs
+    commands_parted = parted cs i other within ∙ ap (λ x. take i cs ++ x ∷ drop (i + 1) cs) is
 
-  module _ (i j : ℕ) (e c : Command) (other some : Command) (is : get_or (all_commands d routes) i other ≡ e) (within : i < length (all_commands d routes))
-      (is_rival : get_or (filter (contend routes e) (all_commands d routes)) j some ≡ c) (rival : j < length (filter (contend routes e) (all_commands d routes))) where
-    commands_parted : all_commands d routes ≡ take i (all_commands d routes) ++ e ∷ drop (i + 1) (all_commands d routes)
-    commands_parted = parted (all_commands d routes) i other within ∙ ap (λ x. take i (all_commands d routes) ++ x ∷ drop (i + 1) (all_commands d routes)) is
-
-    rivals_parted : filter (contend routes e) (all_commands d routes) ≡ take j (filter (contend routes e) (all_commands d routes)) ++ c ∷ drop (j + 1) (filter (contend routes e) (all_commands d routes))
-    rivals_parted = parted (filter (contend routes e) (all_commands d routes)) j some rival ∙ ap (λ x. take j (filter (contend routes e) (all_commands d routes)) ++ x ∷ drop (j + 1) (filter (contend routes e) (all_commands d routes))) is_rival
+    rivals_parted : filter (contend routes e) cs ≡ take j (filter (contend routes e) cs) ++ c ∷ drop (j + 1) (filter (contend routes e) cs)
+    rivals_parted = parted (filter (contend routes e) cs) j some rival ∙ ap (λ x. take j (filter (contend routes e) cs) ++ x ∷ drop (j + 1) (filter (contend routes e) cs)) is_rival
 
     abbrev earlier : List (Command × Command)
-    earlier = flat_map (pairs_before d routes) (take i (all_commands d routes))
+    earlier = flat_map (each_pair routes cs) (take i cs)
 
     abbrev nearer : List (Command × Command)
-    nearer = map (λ x. (e, x)) (take j (filter (contend routes e) (all_commands d routes)))
+    nearer = map (λ x. (e, x)) (take j (filter (contend routes e) cs))
 
     abbrev rest : List (Command × Command)
-    rest = map (λ x. (e, x)) (drop (j + 1) (filter (contend routes e) (all_commands d routes))) ++ flat_map (pairs_before d routes) (drop (i + 1) (all_commands d routes))
+    rest = map (λ x. (e, x)) (drop (j + 1) (filter (contend routes e) cs)) ++ flat_map (each_pair routes cs) (drop (i + 1) cs)
 
-    pairs_parted : pairs d routes ≡ (earlier ++ nearer) ++ (e, c) ∷ rest
+    pairs_parted : live_pairs (is_among cs) d routes ≡ (earlier ++ nearer) ++ (e, c) ∷ rest
     pairs_parted =
-        ap (flat_map (pairs_before d routes)) commands_parted
-        ∙ (flat_map-append (pairs_before d routes) (take i (all_commands d routes)) (e ∷ drop (i + 1) (all_commands d routes))
-        ∙ (ap (λ ps. earlier ++ (ps ++ flat_map (pairs_before d routes) (drop (i + 1) (all_commands d routes)))) (ap (map (λ x. (e, x))) rivals_parted ∙ map-append (λ x. (e, x)) (take j (filter (contend routes e) (all_commands d routes))) (c ∷ drop (j + 1) (filter (contend routes e) (all_commands d routes))))
-        ∙ regroup earlier nearer (map (λ x. (e, x)) (drop (j + 1) (filter (contend routes e) (all_commands d routes)))) (flat_map (pairs_before d routes) (drop (i + 1) (all_commands d routes))) (e, c)))
+        set_by_firsts cs d routes are
+        ∙ (ap (flat_map (each_pair routes cs)) commands_parted
+        ∙ (flat_map-append (each_pair routes cs) (take i cs) (e ∷ drop (i + 1) cs)
+        ∙ (ap (λ ps. earlier ++ (ps ++ flat_map (each_pair routes cs) (drop (i + 1) cs))) (ap (map (λ x. (e, x))) rivals_parted ∙ map-append (λ x. (e, x)) (take j (filter (contend routes e) cs)) (c ∷ drop (j + 1) (filter (contend routes e) cs)))
+        ∙ regroup earlier nearer (map (λ x. (e, x)) (drop (j + 1) (filter (contend routes e) cs))) (flat_map (each_pair routes cs) (drop (i + 1) cs)) (e, c))))
 
     not_earlier : (p : Command × Command) → In p earlier → is_pair e c p ≡ true → ⊥
     not_earlier p m t =
-        let back = in_flat_map_back (pairs_before d routes) (take i (all_commands d routes)) p m in
-        let made = in_map_back (λ (x : Command). (back.0, x)) (filter (contend routes back.0) (all_commands d routes)) p back.2 in
+        let back = in_flat_map_back (each_pair routes cs) (take i cs) p m in
+        let made = in_map_back (λ (x : Command). (back.0, x)) (filter (contend routes back.0) cs) p back.2 in
         let first : back.0 ≡ p.0 = ap (λ (q : Command × Command). q.0) made.2 in
         let same : p.0 ≡ e = is_command_same e p.0 (and_left (is_command e p.0) (is_command c p.1) t) in
-        pairs_across (λ (x y : Command). x ≡ y → ⊥) (take i (all_commands d routes)) (e ∷ drop (i + 1) (all_commands d routes)) (subst (λ (cs : List Command). Differ cs) commands_parted differ) back.0 e back.1 (inl refl) (first ∙ same)
+        pairs_across (λ (x y : Command). x ≡ y → ⊥) (take i cs) (e ∷ drop (i + 1) cs) (subst (λ (cs : List Command). Differ cs) commands_parted differ) back.0 e back.1 (inl refl) (first ∙ same)
 
     not_nearer : (p : Command × Command) → In p nearer → is_pair e c p ≡ true → ⊥
     not_nearer p m t =
-        let made = in_map_back (λ (x : Command). (e, x)) (take j (filter (contend routes e) (all_commands d routes))) p m in
+        let made = in_map_back (λ (x : Command). (e, x)) (take j (filter (contend routes e) cs)) p m in
         let second : made.0 ≡ p.1 = ap (λ (q : Command × Command). q.1) made.2 in
         let same : p.1 ≡ c = is_command_same c p.1 (and_right (is_command e p.0) (is_command c p.1) t) in
-        pairs_across (λ (x y : Command). x ≡ y → ⊥) (take j (filter (contend routes e) (all_commands d routes))) (c ∷ drop (j + 1) (filter (contend routes e) (all_commands d routes)))
-        (subst (λ (cs : List Command). Differ cs) rivals_parted (pairs_filter (λ (x y : Command). x ≡ y → ⊥) (contend routes e) (all_commands d routes) differ)) made.0 c made.1 (inl refl) (second ∙ same)
+        pairs_across (λ (x y : Command). x ≡ y → ⊥) (take j (filter (contend routes e) cs)) (c ∷ drop (j + 1) (filter (contend routes e) cs))
+        (subst (λ (cs : List Command). Differ cs) rivals_parted (pairs_filter (λ (x y : Command). x ≡ y → ⊥) (contend routes e) cs differ)) made.0 c made.1 (inl refl) (second ∙ same)
 
     -- the number of a pair follows on those of the pairs before it
-    pub number_is : (n : ℕ) → number_of d routes n (Before e c) ≡ length d.trains * length routes * n + length (pairs_to i) + j + 1
+    pub number_is : (n : ℕ) → live_number (is_among cs) d routes n (Before e c) ≡ length cs * n + length (pairs_to cs routes i) + j + 1
     number_is n =
         let neither : (p : Command × Command) → In p (earlier ++ nearer) → is_pair e c p ≡ true → ⊥ = λ p m t. go p (in_append p earlier nearer m) t in
+        let many = ap (λ (xs : List Command). length xs * n) are in
         let b = ap length (ap (before_first (is_pair e c)) pairs_parted ∙ first_there (is_pair e c) (earlier ++ nearer) rest (e, c) neither (and_both (is_command e e) (is_command c c) (is_command_self e) (is_command_self c))) in
         let l = length-append earlier nearer in
         let pair : Command → Command × Command = λ x. (e, x) in
-        let k = length-map pair (take j (filter (contend routes e) (all_commands d routes))) in
-        let t = length-taken (filter (contend routes e) (all_commands d routes)) j (omega arith) in
+        let k = length-map pair (take j (filter (contend routes e) cs)) in
+        let t = length-taken (filter (contend routes e) cs) j (omega arith) in
         omega arith
       where
         go : (p : Command × Command) → In p earlier ⊎ In p nearer → is_pair e c p ≡ true → ⊥
@@ -127,18 +117,19 @@ module _ (d : Station) (routes : List Route) where
         go p (inr m) t = not_nearer p m t
 
   -- the pairs of one command more
-  pub pairs_more : (i : ℕ) (other : Command) → i < length (all_commands d routes) → length (pairs_to (i + 1)) ≡ length (pairs_to i) + length (filter (contend routes (get_or (all_commands d routes) i other)) (all_commands d routes))
+  pub pairs_more : (i : ℕ) (other : Command) → i < length cs → length (pairs_to cs routes (i + 1)) ≡ length (pairs_to cs routes i) + length (filter (contend routes (get_or cs i other)) cs)
   pairs_more i other h =
-      let e = get_or (all_commands d routes) i other in
+      let e = get_or cs i other in
       let pair : Command → Command × Command = λ x. (e, x) in
-      ap (λ cs. length (flat_map (pairs_before d routes) cs)) (taken_more (all_commands d routes) i other h)
-      ∙ (ap length (flat_map-append (pairs_before d routes) (take i (all_commands d routes)) (e ∷ []))
-      ∙ (length-append (flat_map (pairs_before d routes) (take i (all_commands d routes))) (pairs_before d routes e ++ [])
-      ∙ ap (λ m. length (pairs_to i) + m) (ap length (append-nil (pairs_before d routes e)) ∙ length-map pair (filter (contend routes e) (all_commands d routes)))))
+      ap (λ (xs : List Command). length (flat_map (each_pair routes cs) xs)) (taken_more cs i other h)
+      ∙ (ap length (flat_map-append (each_pair routes cs) (take i cs) (e ∷ []))
+      ∙ (length-append (flat_map (each_pair routes cs) (take i cs)) (each_pair routes cs e ++ [])
+      ∙ ap (λ m. length (pairs_to cs routes i) + m) (ap length (append-nil (each_pair routes cs e)) ∙ length-map pair (filter (contend routes e) cs))))
+
+  -- those of all commands are all pairs
+  pub pairs_all : (i : ℕ) → length cs ≤ i → length (pairs_to cs routes i) ≡ length (live_pairs (is_among cs) d routes)
+  pairs_all i h = ap length (ap (flat_map (each_pair routes cs)) (take_all i cs h) ∙ sym (set_by_firsts cs d routes are))
 
 -- the variables of commands are few
-pub own_few : (t r n : ℕ) → t ≤ 128 → r ≤ 2000 → n ≤ 256 → t * r * n ≤ 65536000
-own_few t r n a b c =
-    let one : t * r ≤ 128 * 2000 = mul-le t r 128 2000 a b in
-    let two : t * r * n ≤ 256000 * 256 = mul-le (t * r) n 256000 256 (omega arith) c in
-    omega arith
+pub own_few : (g n : ℕ) → g ≤ 256000 → n ≤ 256 → g * n ≤ 65536000
+own_few g n a b = let all : g * n ≤ 256000 * 256 = mul-le g n 256000 256 a b in omega arith

@@ -1,28 +1,37 @@
 -- Clauses that calls list one after another.
+use Rattle.live_clause_spec.specs.Listed.{live_first_pairs}
+use Rattle.live_clause_spec.specs.Variables.{live_numbered, live_pairs}
+use Rattle.command_set.specs.Commands.{AreCommandsOf, is_among}
+use Rattle.live_contending.proofs.Listed.{set_by_firsts}
+use Rattle.plan_encoding.proofs.Tabled.{each_pair}
 use Rattle.std.proofs.Common.{◌≡◌, ℕ, Bool, true, false, cond, nat_lt, List, [], ◌∷◌, ◌++◌, map, flat_map, filter, refl, sym, ap, subst, ◌∙◌}
 use Rattle.std.proofs.lemmas.List.{append_assoc}
 use Rattle.std.proofs.lemmas.Grind.{flat_map-append}
 use Rattle.rail_base.specs.declared.station.Station.{Station}
 use Rattle.rail_base.specs.declared.route.Route.{Route}
-use Rattle.rail_spec.specs.Plans.{all_commands}
-use Rattle.clause_spec.specs.Variables.{numbered, pairs, pairs_before}
+use Rattle.rail_base.specs.declared.plan.Command.{Command}
 use Rattle.plan_encoding.specs.Waiting.{apart_once}
 use Rattle.plan_encoding.proofs.Emission.{part_listed, part_fails}
-use Rattle.std.specs.Prelude.{Result, Ok, Err, OnOk, IfErr}
+use Rattle.std.specs.Prelude.{Result, Ok, Err, IfOk, OnOk, IfErr}
 use Rattle.plan_encoding.specs.declared.sink.BaseFault.{BaseFault}
 use Rattle.plan_encoding.specs.declared.encoder.Encoder.{Encoder}
-use Rattle.clause_spec.specs.Clauses.{Clause, first_pairs, not_at_once}
+use Rattle.clause_spec.specs.Clauses.{Clause, not_at_once}
 use Rattle.plan_encoding.specs.Sinks.{SinkView, Emission, Emitted, emitted, FaultSays}
 use Rattle.normal_clause_spec.specs.Variables.{normal_numbered}
 use Rattle.normal_clause_spec.specs.Clauses.{NormalClause}
 use Rattle.sat_clause.specs.declared.lit.Lit.{Lit}
-use Rattle.plan_encoding.specs.Encoders.{numbered_clauses, over}
+use Rattle.plan_encoding.specs.Encoders.{among, numbered_clauses, over}
 use Rattle.plan_encoding.specs.Normal.{normal_numbered_clauses}
 
 -- what holds where the answer is Ok, if another thing does
 pub on_ok : {A E : Type 0} {P Q : Type 0} (r : Result A E) → (P → Q) → OnOk r P → OnOk r Q
 on_ok (Ok x) h p = h p
 on_ok (Err e) h p = p
+
+-- what holds of the value, if another thing does
+pub if_ok : {A E : Type 0} {P Q : A → Type 0} (r : Result A E) → ((x : A) → P x → Q x) → IfOk r P → IfOk r Q
+if_ok (Ok x) h p = h x p
+if_ok (Err e) h p = tt
 
 -- the same of the fault
 pub if_err : {A : Type 0} {P Q : BaseFault → Type 0} (r : Result A BaseFault) → ((e : BaseFault) → P e → Q e) → IfErr r P → IfErr r Q
@@ -48,10 +57,10 @@ module _ {L : Type 0} (num : L → Lit) (a b : List (List L)) (old : SinkView) w
 
 -- the same of clauses of the plain base
 pub then_rest : (f : Encoder) (a b : List Clause) (old new : SinkView) → emitted old (numbered_clauses f a) ≡ Emitted new → emitted new (numbered_clauses f b) ≡ emitted old (numbered_clauses f (a ++ b))
-then_rest f a b old new h = rest_listed (over f numbered) a b old new h
+then_rest f a b old new h = rest_listed (among f live_numbered) a b old new h
 
 pub then_fails : (f : Encoder) (a b : List Clause) (old : SinkView) (e : BaseFault) → FaultSays (emitted old (numbered_clauses f a)) e → FaultSays (emitted old (numbered_clauses f (a ++ b))) e
-then_fails f a b old e h = first_fails (over f numbered) a b old e h
+then_fails f a b old e h = first_fails (among f live_numbered) a b old e h
 
 -- and of normal plans
 pub normal_rest : (f : Encoder) (a b : List NormalClause) (old new : SinkView) → emitted old (normal_numbered_clauses f a) ≡ Emitted new → emitted new (normal_numbered_clauses f b) ≡ emitted old (normal_numbered_clauses f (a ++ b))
@@ -75,8 +84,8 @@ parts_parts g h [] = refl
 parts_parts g h (x ∷ xs) = flat_map-append g (h x) (flat_map h xs) ∙ ap (λ zs. flat_map g (h x) ++ zs) (parts_parts g h xs)
 
 -- the first pairs are those of which the first train is the earlier one
-pub apart_are : (d : Station) (routes : List Route) (n : ℕ) → flat_map (λ e. flat_map (apart_once d routes n) (pairs_before d routes e)) (all_commands d routes) ≡ flat_map (not_at_once d routes n) (first_pairs d routes n)
-apart_are d routes n = sym (parts_kept (not_at_once d routes n) (λ p. nat_lt p.0.train.0 p.1.train.0) (pairs d routes) ∙ parts_parts (apart_once d routes n) (pairs_before d routes) (all_commands d routes))
+pub apart_are : (cs : List Command) (d : Station) (routes : List Route) (n : ℕ) → AreCommandsOf d routes cs → flat_map (λ e. flat_map (apart_once d routes n) (each_pair routes cs e)) cs ≡ flat_map (not_at_once d routes n) (live_first_pairs (is_among cs) d routes n)
+apart_are cs d routes n are = sym (parts_kept (not_at_once d routes n) (λ p. nat_lt p.0.train.0 p.1.train.0) (live_pairs (is_among cs) d routes) ∙ (ap (flat_map (apart_once d routes n)) (set_by_firsts cs d routes are) ∙ parts_parts (apart_once d routes n) (each_pair routes cs) cs))
 
 -- the parts as they stand in all
 pub in_a_row : {X : Type 0} (a d e f g h : List X) → (a ++ (d ++ e)) ++ ((f ++ g) ++ h) ≡ ((((a ++ d) ++ e) ++ f) ++ g) ++ h

@@ -1,10 +1,9 @@
 -- What the tables of an encoder have.
-use Rattle.std.proofs.Common.{◌≡◌, ℕ, zero, suc, ◌+◌, ◌-◌, ◌*◌, ◌≤◌, ◌<◌, ◌⊎◌, inl, inr, Bool, true, false, cond, ◌&&◌, List, [], ◌∷◌, ◌++◌, map, filter, flat_map, length, get_or, refl, sym, ap, subst, ◌∙◌, arith, drop, length-append}
+use Rattle.std.proofs.Common.{◌≡◌, ℕ, zero, suc, ◌+◌, ◌-◌, ◌*◌, ◌≤◌, ◌<◌, ◌⊎◌, inl, inr, Bool, true, false, cond, ◌&&◌, List, [], ◌∷◌, ◌++◌, map, filter, flat_map, length, get_or, refl, sym, ap, subst, ◌∙◌, arith, drop, length-append, append-nil}
 use Rattle.std.proofs.Math.Nat.{suc-mul}
 use Rattle.std.proofs.lemmas.Nat.{mul-le}
-use Rattle.clause_spec.specs.Variables.{pairs_before}
 use Rattle.clause_spec.specs.Clauses.{Clause, exclude, later_pairs}
-use Rattle.std.proofs.lemmas.List.{append_assoc, drop_more}
+use Rattle.std.proofs.lemmas.List.{append_assoc, drop_all, drop_more}
 use Rattle.plan_encoding.proofs.Emission.{Next}
 use Rattle.std.specs.Prelude.{All}
 use Rattle.rail_base.specs.declared.station.Station.{Station}
@@ -23,7 +22,9 @@ use Rattle.plan_encoding.specs.declared.encoder.Encoder.{Encoder}
 use Rattle.plan_encoding.specs.declared.network.Network.{Network}
 use Rattle.plan_encoding.specs.declared.tables.Tables.{Tables}
 use Rattle.plan_encoding.specs.Families.{rivals_of}
-use Rattle.plan_encoding.specs.Encoders.{IsCommand, station, table}
+use Rattle.plan_encoding.specs.Encoders.{HasCommands, IsCommand, commands, station, table}
+use Rattle.command_set.specs.Commands.{is_among}
+use Rattle.live_clause_spec.specs.Listed.{is_live_for}
 use Rattle.plan_encoding.specs.Tables.{ArePairs, exclusions}
 
 -- ---- members
@@ -63,26 +64,60 @@ all_kept routes test = all_by_members (IsRoute routes) (filter test (route_numbe
 pub all_trains : (d : Station) → All (IsTrain d) (trains d)
 all_trains d = all_by_members (IsTrain d) (trains d) (train_known d)
 
-pub command_known : (f : Encoder) (c : Command) → In c (all_commands f.interlocking.now.design.station f.interlocking.now.routes) → IsCommand f c
+pub command_known : (f : Encoder) (c : Command) → In c (commands f) → IsCommand f c
 command_known f c m =
     let d = f.interlocking.now.design.station in
     let routes = f.interlocking.now.routes in
-    let outer = in_flat_map_back (commands_of routes) (trains d) c m in
+    let live : Command → Bool = is_among (commands f) in
+    let kept = in_filter_back live (all_commands d routes) c (subst (λ (xs : List Command). In c xs) (sym f.of_design) m) in
+    let outer = in_flat_map_back (commands_of routes) (trains d) c kept.0 in
     let make : RouteNo → Command = λ r. record { train = outer.0; route = r } in
     let inner = in_map_back make (route_numbers routes) c outer.2 in
     let t : outer.0 ≡ c.train = ap (λ (e : Command). e.train) inner.2 in
     let r : inner.0 ≡ c.route = ap (λ (e : Command). e.route) inner.2 in
-    record { train = subst (IsTrain d) t (train_known d outer.0 outer.1); route = subst (IsRoute routes) r (route_known routes inner.0 inner.1) }
+    record {
+      train = subst (IsTrain d) t (train_known d outer.0 outer.1);
+      route = subst (IsRoute routes) r (route_known routes inner.0 inner.1);
+      known = kept.1;
+    }
 
-pub all_known : (f : Encoder) → All (IsCommand f) (all_commands f.interlocking.now.design.station f.interlocking.now.routes)
-all_known f = all_by_members (IsCommand f) (all_commands f.interlocking.now.design.station f.interlocking.now.routes) (command_known f)
+pub all_known : (f : Encoder) → All (IsCommand f) (commands f)
+all_known f = all_by_members (IsCommand f) (commands f) (command_known f)
 
-pub all_kept_commands : (f : Encoder) (test : Command → Bool) → All (IsCommand f) (filter test (all_commands f.interlocking.now.design.station f.interlocking.now.routes))
-all_kept_commands f test =
-    let all = all_commands f.interlocking.now.design.station f.interlocking.now.routes in
-    all_by_members (IsCommand f) (filter test all) (λ c m. command_known f c (in_filter_back test all c m).0)
+pub all_kept_commands : (f : Encoder) (test : Command → Bool) → All (IsCommand f) (filter test (commands f))
+all_kept_commands f test = all_by_members (IsCommand f) (filter test (commands f)) (λ c m. command_known f c (in_filter_back test (commands f) c m).0)
+
+-- the train's commands with those of the routes that it has commands for
+pub among_known : (f : Encoder) (t : TrainNo) (rs : List RouteNo) → IsTrain (station f) t → All (IsRoute (table f)) rs → HasCommands f t (filter (is_live_for (is_among (commands f)) t) rs)
+among_known f t rs h k =
+    let test = is_live_for (is_among (commands f)) t in
+    all_by_members (λ r. IsCommand f (record { train = t; route = r })) (filter test rs) (λ r m.
+    let kept = in_filter_back test rs r m in
+    record { train = h; route = at rs k r kept.0; known = kept.1 })
+  where
+    at : (xs : List RouteNo) → All (IsRoute (table f)) xs → (r : RouteNo) → In r xs → IsRoute (table f) r
+    at [] a r m = absurd m
+    at (x ∷ xs) a r (inl e) = subst (IsRoute (table f)) e (a 0 x (omega arith))
+    at (x ∷ xs) a r (inr m) = at xs (λ i other l. a (suc i) other (omega arith)) r m
+
+-- the same of those that were put in a list, once none is left
+pub among_found : (f : Encoder) (t : TrainNo) (rs found : List RouteNo) (i : ℕ) → length rs ≤ i → found ++ filter (is_live_for (is_among (commands f)) t) (drop i rs) ≡ filter (is_live_for (is_among (commands f)) t) rs
+    → IsTrain (station f) t → All (IsRoute (table f)) rs → HasCommands f t found
+among_found f t rs found i done is h k =
+    let test = is_live_for (is_among (commands f)) t in
+    let all : found ≡ filter test rs = sym (ap (λ xs. found ++ filter test xs) (drop_all i rs done) ∙ append-nil found) ∙ is in
+    subst (λ xs. HasCommands f t xs) (sym all) (among_known f t rs h k)
+
+-- no route has no command
+pub nothing_known : (f : Encoder) (t : TrainNo) (rs : List RouteNo) → rs ≡ [] → HasCommands f t rs
+nothing_known f t [] e = λ i x l. absurd (omega arith)
+nothing_known f t (r ∷ rs) e = absurd (cc)
 
 -- ---- rivals
+
+-- a command with each of these that contends with it
+abbrev pub each_pair : List Route → List Command → Command → List (Command × Command)
+each_pair routes all e = map (λ c. (e, c)) (filter (contend routes e) all)
 
 -- a filter of a filter
 pub filter_both : {X : Type 0} (one other : X → Bool) (xs : List X) → filter other (filter one xs) ≡ filter (λ x. one x && other x) xs
@@ -94,12 +129,12 @@ filter_both {X} one other (x ∷ xs) = go (one x) (filter_both one other xs)
     go false h = h
 
 -- the part of a command's pairs, over its rivals
-pub next_rivals : (g : Command × Command → List Clause) (d : Station) (routes : List Route) (cs : List Command) (i : ℕ) (other : Command) → i < length cs → (rivals : List Command) → rivals ≡ filter (contend routes (get_or cs i other)) (all_commands d routes)
-    → Next (flat_map (λ e. flat_map g (pairs_before d routes e)) (drop i cs)) (flat_map g (map (λ c. (get_or cs i other, c)) rivals)) (flat_map (λ e. flat_map g (pairs_before d routes e)) (drop (i + 1) cs))
-next_rivals g d routes cs i other h rivals is = record {
+pub next_rivals : (g : Command × Command → List Clause) (routes : List Route) (all cs : List Command) (i : ℕ) (other : Command) → i < length cs → (rivals : List Command) → rivals ≡ filter (contend routes (get_or cs i other)) all
+    → Next (flat_map (λ e. flat_map g (each_pair routes all e)) (drop i cs)) (flat_map g (map (λ c. (get_or cs i other, c)) rivals)) (flat_map (λ e. flat_map g (each_pair routes all e)) (drop (i + 1) cs))
+next_rivals g routes all cs i other h rivals is = record {
   is =
-      ap (flat_map (λ e. flat_map g (pairs_before d routes e))) (drop_more cs i other h)
-      ∙ ap (λ rs. flat_map g (map (λ c. (get_or cs i other, c)) rs) ++ flat_map (λ e. flat_map g (pairs_before d routes e)) (drop (i + 1) cs)) (sym is);
+      ap (flat_map (λ e. flat_map g (each_pair routes all e))) (drop_more cs i other h)
+      ∙ ap (λ rs. flat_map g (map (λ c. (get_or cs i other, c)) rs) ++ flat_map (λ e. flat_map g (each_pair routes all e)) (drop (i + 1) cs)) (sym is);
 }
 
 -- all commands are few
@@ -167,14 +202,8 @@ all_pairs_known routes = all_by_members (ArePairs routes) (exclusions routes) (�
 
 -- ---- what tables and networks hold
 
-pub known_commands : (t : Tables) (cs : List Command) → cs ≡ t.commands.items → All (IsCommand t.encoder) cs
-known_commands t cs e = subst (λ (xs : List Command). All (IsCommand t.encoder) xs) (sym (e ∙ t.every_command)) (all_known t.encoder)
-
 pub known_trains : (t : Tables) (ts : List TrainNo) → ts ≡ t.trains.items → All (IsTrain (station t.encoder)) ts
 known_trains t ts e = subst (λ (xs : List TrainNo). All (IsTrain (station t.encoder)) xs) (sym (e ∙ t.every_train)) (all_trains (station t.encoder))
-
-pub known_numbers : (t : Tables) (rs : List RouteNo) → rs ≡ t.numbers.items → All (IsRoute (table t.encoder)) rs
-known_numbers t rs e = subst (λ (xs : List RouteNo). All (IsRoute (table t.encoder)) xs) (sym (e ∙ t.every_number)) (all_numbers (table t.encoder))
 
 pub known_pairs : (t : Tables) (ps : List (RouteNo × RouteNo)) → ps ≡ t.exclusions.items → All (ArePairs (table t.encoder)) ps
 known_pairs t ps e = subst (λ (xs : List (RouteNo × RouteNo)). All (ArePairs (table t.encoder)) xs) (sym (e ∙ t.excluded)) (all_pairs_known (table t.encoder))

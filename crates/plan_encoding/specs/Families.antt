@@ -1,25 +1,27 @@
 -- The clauses of an encoder as they are emitted, family by family.
 use Rattle.std.specs.Prelude.{ℕ, ◌≡◌, ◌<◌, ◌+◌, ◌-◌, ◌*◌, List, [], ◌∷◌, ◌++◌, map, filter, flat_map, length, get_or}
-use Rattle.rail_base.specs.declared.station.Station.{Station}
 use Rattle.rail_base.specs.declared.station.TrainNo.{TrainNo}
-use Rattle.rail_base.specs.declared.route.Route.{Route}
 use Rattle.rail_base.specs.declared.station.NodeNo.{NodeNo}
 use Rattle.rail_base.specs.declared.route.RouteNo.{RouteNo}
 use Rattle.rail_base.specs.declared.plan.Command.{Command}
 use Rattle.rail_base.specs.Numbering.{one_to}
 use Rattle.rail_base.specs.Stations.{trains}
-use Rattle.rail_spec.specs.Plans.{all_commands, commands_of, contend, route_numbers}
-use Rattle.clause_spec.specs.Variables.{Given, Before, By, yes, no, if_given, number_of, pairs}
-use Rattle.clause_spec.specs.Clauses.{Clause, all_given, excluded, first_pairs, in_order, makes_visits, may_visit, not_at_once, starts_rightly, stays_given, waits}
-use Rattle.alike_clause_spec.specs.Turns.{in_turn}
+use Rattle.rail_spec.specs.Plans.{contend}
+use Rattle.clause_spec.specs.Variables.{Given, Before, By, yes, no, if_given}
+use Rattle.clause_spec.specs.Clauses.{Clause, in_order, may_visit, not_at_once, stays_given}
+use Rattle.live_clause_spec.specs.Listed.{live_all_given, live_excluded, live_first_pairs, live_in_turn}
+use Rattle.live_clause_spec.specs.Listed.{live_makes_visits, live_routes, live_starts_rightly, live_waits}
+use Rattle.live_clause_spec.specs.Variables.{live_number}
+use Rattle.command_set.specs.Commands.{is_among}
 use Rattle.plan_encoding.specs.declared.encoder.Encoder.{Encoder}
-use Rattle.plan_encoding.specs.Encoders.{over, station, table}
+use Rattle.plan_encoding.specs.Encoders.{among, commands, over, pairs_of, station, table}
 
 -- ---- clauses of commands
 
 -- where a command is given by a step, one of these routes is given to its train by the step before
 abbrev pub led_clause : Command → List RouteNo → ℕ → Clause
-led_clause c leading i = no (Given c i) ∷ flat_map (λ q. if_given (record { train = c.train; route = q }) (i - 1)) leading
+led_clause c leading i =
+    no (Given c i) ∷ flat_map (λ q. if_given (record { train = c.train; route = q }) (i - 1)) leading
 
 -- of two commands not both are new in a step
 abbrev pub apart : Command → Command → ℕ → Clause
@@ -42,16 +44,20 @@ abbrev pub waiting : Command → Command → List RouteNo → List RouteNo → �
 waiting e c chain further i =
     one_not_given e.train chain i ++ no (Given c (i + 1)) ∷ yes (Given c i) ∷ one_given e.train further i
 
+-- what a command asks with each of these
+abbrev pub each_with : (Command × Command → List Clause) → Command → List Command → List Clause
+each_with family e cs = flat_map family (map (λ c. (e, c)) cs)
+
 module _ (f : Encoder) where
   -- ---- commands
 
   -- the commands that contend with this one
   abbrev pub rivals_of : Command → List Command
-  rivals_of e = filter (contend (table f) e) (all_commands (station f) (table f))
+  rivals_of e = filter (contend (table f) e) (commands f)
 
-  -- those of a train
-  abbrev pub rivals_in : Command → TrainNo → List Command
-  rivals_in e t = filter (contend (table f) e) (commands_of (table f) t)
+  -- the routes of a train's commands
+  abbrev pub routes_of : TrainNo → List RouteNo
+  routes_of t = live_routes (is_among (commands f)) (table f) t
 
   -- ---- clauses of the encoder
 
@@ -65,7 +71,7 @@ module _ (f : Encoder) where
 
   -- one of the routes is given on which the visit may be made
   abbrev pub visited_on : TrainNo → ℕ → List NodeNo → Clause
-  visited_on t k set = one_given t (filter (over f may_visit k set) (route_numbers (table f))) f.steps.count
+  visited_on t k set = one_given t (filter (over f may_visit k set) (routes_of t)) f.steps.count
 
   -- by step k the command is given, if it is given at all
   abbrev pub given_by : ℕ → Command → Clause
@@ -79,54 +85,50 @@ module _ (f : Encoder) where
 
   -- the number of the last variable of a pair
   abbrev pub last_pair : ℕ
-  last_pair = length (station f).trains * length (table f) * f.steps.count + length (pairs (station f) (table f))
+  last_pair = length (commands f) * f.steps.count + length (pairs_of f)
 
   -- the pairs of a command with others have the numbers that follow on one
   abbrev pub Follow : Command → List Command → ℕ → Type 0
-  Follow e cs last = (i : ℕ) (c : Command) → i < length cs → over f number_of (Before e (get_or cs i c)) ≡ last + i + 1
+  Follow e cs last =
+      (i : ℕ) (c : Command) → i < length cs → among f live_number (Before e (get_or cs i c)) ≡ last + i + 1
 
   -- ---- families
 
-  -- what a command asks with each of these
-  abbrev pub each_with : (Station → List Route → ℕ → Command × Command → List Clause)
-      → Command → List Command → List Clause
-  each_with family e cs = flat_map (over f family) (map (λ c. (e, c)) cs)
-
   -- what is given stays given
   abbrev pub all_stay : List Clause
-  all_stay = flat_map (over f stays_given) (all_commands (station f) (table f))
+  all_stay = flat_map (over f stays_given) (commands f)
 
   -- all routes start rightly
   abbrev pub all_start_rightly : List Clause
-  all_start_rightly = flat_map (over f starts_rightly) (all_commands (station f) (table f))
+  all_start_rightly = flat_map (among f live_starts_rightly) (commands f)
 
   -- no train is given two routes that exclude each other
   abbrev pub none_excluded : List Clause
-  none_excluded = flat_map (over f excluded) (trains (station f))
+  none_excluded = flat_map (among f live_excluded) (trains (station f))
 
   -- no contending commands are given in one step
   abbrev pub all_apart : List Clause
-  all_apart = flat_map (over f not_at_once) (over f first_pairs)
+  all_apart = flat_map (over f not_at_once) (among f live_first_pairs)
 
   -- contending commands wait for each other
   abbrev pub all_wait : List Clause
-  all_wait = flat_map (over f waits) (pairs (station f) (table f))
+  all_wait = flat_map (among f live_waits) (pairs_of f)
 
   -- all trains make their visits
   abbrev pub all_visits : List Clause
-  all_visits = flat_map (over f makes_visits) (trains (station f))
+  all_visits = flat_map (among f live_makes_visits) (trains (station f))
 
   -- what the variables of pairs say
   abbrev pub all_in_order : List Clause
-  all_in_order = flat_map (over f in_order) (pairs (station f) (table f))
+  all_in_order = flat_map (over f in_order) (pairs_of f)
 
   -- what the variables of steps say
   abbrev pub all_by_steps : List Clause
-  all_by_steps = flat_map (over f all_given) (one_to (f.steps.count - 1))
+  all_by_steps = flat_map (among f live_all_given) (one_to (f.steps.count - 1))
 
   -- the trains of each pair come in turn
   abbrev pub all_in_turn : List (TrainNo × TrainNo) → List Clause
-  all_in_turn pairs = flat_map (over f in_turn) pairs
+  all_in_turn pairs = flat_map (among f live_in_turn) pairs
 
   -- what commands and trains ask by themselves
   abbrev pub alone : List Clause

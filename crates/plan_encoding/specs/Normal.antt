@@ -1,17 +1,18 @@
 -- The clauses of normal plans as they are emitted.
 use Rattle.std.specs.Prelude.{◌≡◌, ℕ, ◌-◌, List, [], ◌∷◌, ◌++◌, map, flat_map}
 use Rattle.sat_clause.specs.declared.lit.Lit.{Lit}
+use Rattle.rail_base.specs.declared.station.Station.{Station}
 use Rattle.rail_base.specs.declared.station.TrainNo.{TrainNo}
+use Rattle.rail_base.specs.declared.route.Route.{Route}
 use Rattle.rail_base.specs.declared.route.RouteNo.{RouteNo}
 use Rattle.rail_base.specs.declared.plan.Command.{Command}
 use Rattle.rail_base.specs.Numbering.{count_from}
-use Rattle.rail_spec.specs.Plans.{all_commands}
 use Rattle.clause_spec.specs.Variables.{Given, if_given, no}
 use Rattle.normal_clause_spec.specs.Variables.{is_in, is_not_in, normal_numbered, of_base}
-use Rattle.normal_clause_spec.specs.Clauses.{NormalClause, exactly, keepers, kept, leaders}
+use Rattle.normal_clause_spec.specs.Clauses.{NormalClause, exactly, keepers, kept, leaders, normal_clauses}
 use Rattle.plan_encoding.specs.declared.sink.BaseFault.{BaseFault}
 use Rattle.plan_encoding.specs.declared.encoder.Encoder.{Encoder}
-use Rattle.plan_encoding.specs.Encoders.{over, station, table}
+use Rattle.plan_encoding.specs.Encoders.{commands, over}
 use Rattle.plan_encoding.specs.Sinks.{SinkView, Emitted, emitted, FaultSays}
 
 -- the commands of a train with these routes
@@ -53,8 +54,12 @@ module _ (f : Encoder) where
 
   -- a command is given in a step where it is given by it, and not by the step before
   abbrev pub all_exact : List NormalClause
-  all_exact = flat_map (over f exactly) (all_commands (station f) (table f))
+  all_exact = flat_map (over f exactly) (commands f)
 
   -- no command could be given a step earlier
   abbrev pub all_kept : List NormalClause
-  all_kept = flat_map (over f kept) (all_commands (station f) (table f))
+  all_kept = flat_map (over f kept) (commands f)
+
+-- all clauses of normal plans over numbers
+abbrev pub normal_part : Station → List Route → ℕ → List (List Lit)
+normal_part d routes n = map (map (normal_numbered d routes n)) (normal_clauses d routes n)

@@ -32,4 +32,4 @@ said_by p = over p.encoder in_order (p.first, p.second)
 
 -- all that the variables of a command's pairs say
 abbrev pub orders_of : Contenders → List Clause
-orders_of c = each_with c.encoder in_order c.first c.rivals.now
+orders_of c = each_with (over c.encoder in_order) c.first c.rivals.now

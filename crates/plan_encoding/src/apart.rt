@@ -19,7 +19,7 @@ impl Tables<'_> {
         ensures ok { OnOk result (Emits self.now.encoder (all_apart self.now.encoder) sink.old sink.new) }
         ensures err { IfErr result (Stops self.now.encoder (all_apart self.now.encoder) sink.old) }
     {
-        for command in &self.commands {
+        for command in self.encoder.commands() {
             let rivals = self.rivals(alloc, *command)?;
             self.encoder
                 .emit_apart_from(alloc, sink, *command, &rivals)?;
@@ -100,8 +100,9 @@ impl Encoder<'_> {
     ) -> Result<(), BaseFault>
         requires first { IsCommand self.now first }
         requires rivals { All (IsCommand self.now) rivals.now }
-        ensures ok { OnOk result (Emits self.now (each_with self.now apart_once first rivals.now) sink.old sink.new) }
-        ensures err { IfErr result (Stops self.now (each_with self.now apart_once first rivals.now) sink.old) }
+        ensures ok { OnOk result (Emits self.now (each_with (over self.now apart_once) first rivals.now)
+            sink.old sink.new) }
+        ensures err { IfErr result (Stops self.now (each_with (over self.now apart_once) first rivals.now) sink.old) }
     {
         for second in rivals {
             self.emit_apart_once(alloc, sink, first, *second)?;

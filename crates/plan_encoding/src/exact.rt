@@ -18,7 +18,7 @@ impl NormalTables<'_> {
             sink.old sink.new) }
         ensures err { IfErr result (StopsNormal self.now.normal.encoder (all_exact self.now.normal.encoder) sink.old) }
     {
-        for command in &self.commands {
+        for command in self.normal.encoder.commands() {
             self.normal.emit_exact_of(alloc, sink, *command)?;
         }
         Ok(())

@@ -2,9 +2,9 @@
 
 ghost use Rattle.std.specs.Prelude.{OnOk, IfErr};
 ghost use Rattle.rail_base.specs.Stations.{IsTrain};
-ghost use Rattle.clause_spec.specs.Clauses.{excluded};
+ghost use Rattle.live_clause_spec.specs.Listed.{live_excluded};
 ghost use Rattle.plan_encoding.specs.Families.{none_excluded};
-ghost use Rattle.plan_encoding.specs.Encoders.{Emits, Stops, over, station};
+ghost use Rattle.plan_encoding.specs.Encoders.{Emits, Stops, among, station};
 
 use crate::sink::{BaseFault, ClauseSink};
 use crate::tables::Tables;
@@ -26,10 +26,12 @@ impl Tables<'_> {
     /// Emits that a train is given no two routes that exclude each other.
     fn emit_excluded_of(&self, sink: &mut ClauseSink, train: TrainNo) -> Result<(), BaseFault>
         requires train { IsTrain (station self.now.encoder) train }
-        ensures ok { OnOk result (Emits self.now.encoder (over self.now.encoder excluded train) sink.old sink.new) }
-        ensures err { IfErr result (Stops self.now.encoder (over self.now.encoder excluded train) sink.old) }
+        ensures ok { OnOk result (Emits self.now.encoder (among self.now.encoder live_excluded train)
+            sink.old sink.new) }
+        ensures err { IfErr result (Stops self.now.encoder (among self.now.encoder live_excluded train) sink.old) }
     {
         let last = self.encoder.steps.count;
+        let commands = self.encoder.pairs.commands();
         for pair in &self.exclusions {
             let one = Command {
                 train,
@@ -39,10 +41,12 @@ impl Tables<'_> {
                 train,
                 route: pair.1,
             };
-            sink.emit(&[
-                self.encoder.not_given_lit(one, last),
-                self.encoder.not_given_lit(other, last),
-            ])?;
+            if commands.contains(one) && commands.contains(other) {
+                sink.emit(&[
+                    self.encoder.not_given_lit(one, last),
+                    self.encoder.not_given_lit(other, last),
+                ])?;
+            }
         }
         Ok(())
     }

@@ -1,9 +1,9 @@
 //! All clauses of a base, emitted family by family.
 
 ghost use Rattle.std.specs.Prelude.{OnOk, IfErr};
-ghost use Rattle.clause_spec.specs.Clauses.{clauses};
+ghost use Rattle.plan_encoding.specs.Bases.{plain_clauses};
 ghost use Rattle.plan_encoding.specs.Families.{alone, together, defining};
-ghost use Rattle.plan_encoding.specs.Encoders.{Emits, Stops, over};
+ghost use Rattle.plan_encoding.specs.Encoders.{Emits, Stops, among};
 
 use crate::selectors::Selectors;
 use crate::sink::{BaseFault, ClauseSink};
@@ -13,8 +13,8 @@ use std::alloc::Global;
 impl Tables<'_> {
     /// Emits all clauses, family by family.
     pub fn emit_all(&self, alloc: Global, sink: &mut ClauseSink) -> Result<(), BaseFault>
-        ensures ok { OnOk result (Emits self.now.encoder (over self.now.encoder clauses) sink.old sink.new) }
-        ensures err { IfErr result (Stops self.now.encoder (over self.now.encoder clauses) sink.old) }
+        ensures ok { OnOk result (Emits self.now.encoder (among self.now.encoder plain_clauses) sink.old sink.new) }
+        ensures err { IfErr result (Stops self.now.encoder (among self.now.encoder plain_clauses) sink.old) }
     {
         self.emit_alone(alloc, sink)?;
         self.emit_together(alloc, sink)?;

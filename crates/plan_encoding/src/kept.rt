@@ -8,7 +8,7 @@ ghost use Rattle.plan_encoding.specs.Normal.{kept_always, kept_by, normal_writte
 
 use crate::normal::{NormalEncoder, NormalTables};
 use crate::sink::{BaseFault, ClauseSink};
-use contending::row_of;
+use live_contending::row_of;
 use rail_base::plan::Command;
 use rail_base::route::RouteNo;
 use rail_base::station::TrainNo;
@@ -22,7 +22,7 @@ impl NormalTables<'_> {
             sink.old sink.new) }
         ensures err { IfErr result (StopsNormal self.now.normal.encoder (all_kept self.now.normal.encoder) sink.old) }
     {
-        for command in &self.commands {
+        for command in self.normal.encoder.commands() {
             let before = self.before(alloc, *command)?;
             self.normal.emit_kept_of(alloc, sink, *command, &before)?;
         }

@@ -30,5 +30,5 @@ mod wait;
 mod waits;
 
 pub use make::{base, base_of, extended};
-pub use numbering::{Base, Counts, Numbering};
+pub use numbering::{Base, Numbering};
 pub use sink::BaseFault;

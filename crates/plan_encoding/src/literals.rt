@@ -1,11 +1,17 @@
 //! The literals and the commands of an encoder.
 
-ghost use Rattle.std.specs.Prelude.{◌≡◌, ◌≤◌, ◌++◌, IfOk, OnOk};
-ghost use Rattle.clause_spec.specs.Variables.{Given, yes, no, if_given, number_of, numbered};
-ghost use Rattle.rail_spec.specs.Plans.{all_commands, commands_of};
-ghost use Rattle.plan_encoding.specs.Encoders.{IsCommand, over, station, table, written};
+ghost use Rattle.std.specs.Prelude.{◌≡◌, ◌≤◌, ◌++◌, All, IfOk, OnOk, length, filter};
+ghost use Rattle.rail_base.specs.Routes.{IsRoute};
+ghost use Rattle.rail_base.specs.Stations.{IsTrain};
+ghost use Rattle.clause_spec.specs.Variables.{Given, yes, no, if_given};
+ghost use Rattle.live_clause_spec.specs.Listed.{is_live_for};
+ghost use Rattle.live_clause_spec.specs.Variables.{live_number, live_numbered};
+ghost use Rattle.command_set.specs.Commands.{is_among};
+ghost use Rattle.plan_encoding.specs.Encoders.{HasCommands, IsCommand, among, commands, station, table, written};
+ghost use Rattle.plan_encoding.specs.Families.{routes_of};
 
 use crate::encoder::Encoder;
+use crate::links::push_if;
 use rail_base::plan::Command;
 use rail_base::route::RouteNo;
 use rail_base::station::TrainNo;
@@ -17,7 +23,7 @@ impl Encoder<'_> {
     pub fn given_lit(&self, command: Command, step: u32) -> Lit
         requires command { IsCommand self.now command }
         requires step { step ≤ self.now.steps.count }
-        ensures { result ≡ over self.now numbered (yes (Given command step)) }
+        ensures { result ≡ among self.now live_numbered (yes (Given command step)) }
     {
         Lit {
             var: self.given_number(command, step),
@@ -29,7 +35,7 @@ impl Encoder<'_> {
     pub fn not_given_lit(&self, command: Command, step: u32) -> Lit
         requires command { IsCommand self.now command }
         requires step { step ≤ self.now.steps.count }
-        ensures { result ≡ over self.now numbered (no (Given command step)) }
+        ensures { result ≡ among self.now live_numbered (no (Given command step)) }
     {
         Lit {
             var: self.given_number(command, step),
@@ -54,37 +60,55 @@ impl Encoder<'_> {
         Ok(())
     }
 
-    /// All commands, by train and then by route.
-    pub fn commands(&self, alloc: Global) -> Result<Vec<Command>, AllocError>
-        ensures { IfOk result (λ cs. cs.items ≡ all_commands (station self.now) (table self.now)) }
+    /// The commands that the base speaks of, by train and then by route.
+    pub fn commands(&self) -> &[Command]
+        ensures value { result.now ≡ commands self.now }
+        ensures known { All (IsCommand self.now) result.now }
+        ensures bound { length result.now ≤ 256000 }
     {
-        let mut commands = Vec::new(alloc);
-        for number in 1..self.interlocking.design.station.trains.len() as u32 + 1 {
-            self.add_commands(TrainNo(number), &mut commands)?;
+        self.pairs.commands().commands()
+    }
+
+    /// The routes of a train's commands, in order.
+    pub fn routes_of(&self, train: TrainNo) -> &[RouteNo]
+        requires train { IsTrain (station self.now) train }
+        ensures value { result.now ≡ routes_of self.now train }
+        ensures known { HasCommands self.now train result.now }
+    {
+        self.pairs.commands().routes_of(train)
+    }
+
+    /// Those of the routes for which the train has a command.
+    pub fn routes_among(
+        &self,
+        alloc: Global,
+        train: TrainNo,
+        routes: &[RouteNo],
+    ) -> Result<Vec<RouteNo>, AllocError>
+        requires train { IsTrain (station self.now) train }
+        requires routes { All (IsRoute (table self.now)) routes.now }
+        ensures value { IfOk result (λ rs. rs.items
+            ≡ filter (is_live_for (is_among (commands self.now)) train) routes.now) }
+        ensures known { IfOk result (λ rs. HasCommands self.now train rs.items) }
+    {
+        let mut among = Vec::new(alloc);
+        for route in routes {
+            let command = Command {
+                train,
+                route: *route,
+            };
+            push_if(&mut among, *route, self.pairs.commands().contains(command))?;
         }
-        Ok(commands)
+        Ok(among)
     }
 
     /// The number of the variable that a command is given by a step.
     pub fn given_number(&self, command: Command, step: u32) -> u32
         requires command { IsCommand self.now command }
         requires step { step ≤ self.now.steps.count }
-        ensures { result ≡ over self.now number_of (Given command step) }
+        ensures { result ≡ among self.now live_number (Given command step) }
     {
-        let routes = self.interlocking.routes.len() as u32;
-        ((command.train.0 - 1) * routes + (command.route.0 - 1)) * self.steps.count + step
-    }
-
-    /// Adds the commands of a train to a list.
-    fn add_commands(&self, train: TrainNo, commands: &mut Vec<Command>) -> Result<(), AllocError>
-        ensures { OnOk result (commands.new.items ≡ commands.old.items ++ commands_of (table self.now) train) }
-    {
-        for number in 1..self.interlocking.routes.len() as u32 + 1 {
-            commands.push(Command {
-                train,
-                route: RouteNo(number),
-            })?;
-        }
-        Ok(())
+        let place = self.pairs.commands().number(command).unwrap_or(0);
+        place * self.steps.count + step
     }
 }

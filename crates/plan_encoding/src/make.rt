@@ -1,16 +1,24 @@
 //! How bases are made: all clauses are emitted twice, first to count their literals, then to keep them; those that a
 //! base has beside them are emitted once.
 
-ghost use Rattle.std.specs.Prelude.{IfOk, IfErr};
-ghost use Rattle.clause_spec.specs.declared.question.BaseKind.TheVariants.{Normal, Plain, Sorted};
-ghost use Rattle.plan_encoding.specs.Bases.{IsBaseOf, IsRefused};
+ghost use Rattle.std.specs.Prelude.{◌≡◌, [], true, IfOk, OnOk, IfErr};
+ghost use Rattle.clause_spec.specs.declared.question.BaseKind.TheVariants.{Live, Normal, Plain};
+ghost use Rattle.command_set.specs.Commands.{AreCommandsOf, is_among};
+ghost use Rattle.plan_encoding.specs.Bases.{AreRefused, IsBaseOf, IsOver, IsRefused, plain_base};
+ghost use Rattle.plan_encoding.specs.Bases.{plain_clauses, speaks_of, turns_base};
+ghost use Rattle.plan_encoding.specs.Encoders.{Emits, Stops, among};
+ghost use Rattle.plan_encoding.specs.Normal.{normal_part};
+ghost use Rattle.plan_encoding.specs.Numberings.{IsNumberingOf};
+ghost use Rattle.plan_encoding.specs.Sinks.{Emitted, FaultSays, emitted};
 
 use crate::encoder::Encoder;
 use crate::normal::NormalEncoder;
-use crate::numbering::{Base, number_variables};
+use crate::numbering::{Base, Numbering, number_variables};
 use crate::sink::{BaseFault, ClauseSink};
 use clause_spec::BaseKind;
+use command_set::CommandSet;
 use interlocking::{Interlocking, Steps};
+use live_contending::ContendingPairs;
 use rail_alike::neighbors;
 use std::alloc::Global;
 
@@ -24,45 +32,88 @@ pub fn base(alloc: Global, interlocking: &Interlocking, steps: Steps) -> Result<
     ensures base { IfOk result (IsBaseOf Plain interlocking.now.design.station interlocking.now.routes steps.count) }
     ensures fault { IfErr result (IsRefused Plain interlocking.now.design.station interlocking.now.routes steps.count) }
 {
+    let commands = CommandSet::all(alloc, interlocking)?;
+    plain_over(alloc, interlocking, steps, commands)
+}
+
+/// The plain clauses over the live commands of a design alone, with those that trains come in turn.
+fn live_base(alloc: Global, interlocking: &Interlocking, steps: Steps) -> Result<Base, BaseFault>
+    ensures base { IfOk result (IsBaseOf Live interlocking.now.design.station interlocking.now.routes steps.count) }
+    ensures fault { IfErr result (IsRefused Live interlocking.now.design.station interlocking.now.routes steps.count) }
+{
+    let commands = CommandSet::live(alloc, interlocking)?;
+    let base = plain_over(alloc, interlocking, steps, commands)?;
+    with_turns(alloc, interlocking, base)
+}
+
+/// The plain clauses over commands of a design, where all others are never given.
+fn plain_over(
+    alloc: Global,
+    interlocking: &Interlocking,
+    steps: Steps,
+    commands: CommandSet,
+) -> Result<Base, BaseFault>
+    requires { AreCommandsOf interlocking.now.design.station interlocking.now.routes commands }
+    ensures base { IfOk result
+        (IsOver commands plain_base interlocking.now.design.station interlocking.now.routes steps.count) }
+    ensures fault { IfErr result (AreRefused
+        (plain_base (is_among commands) interlocking.now.design.station interlocking.now.routes steps.count)) }
+{
+    let pairs = ContendingPairs::new(alloc, interlocking, commands)?;
     let encoder = Encoder {
         interlocking,
         steps,
+        pairs: &pairs,
     };
-    let tables = encoder.tables(alloc)?;
-    let mut count = ClauseSink::new(alloc, false);
-    tables.emit_all(alloc, &mut count)?;
-    let mut sink = count.with_room(alloc)?;
-    tables.emit_all(alloc, &mut sink)?;
+    let sink = encoder.emit_twice(alloc)?;
     let literals = sink.literals();
     Ok(Base {
-        numbering: number_variables(interlocking, steps, tables.into_pairs()),
+        numbering: number_variables(steps, pairs),
         clauses: sink.into_clauses(),
         literals,
     })
 }
 
+impl Encoder<'_> {
+    /// A sink with all plain clauses, for which room was made.
+    fn emit_twice(&self, alloc: Global) -> Result<ClauseSink, BaseFault>
+        ensures ok { IfOk result (λ sink. Emits self.now (among self.now plain_clauses)
+            (record { keep = true; literals = 0; clauses = [] }) sink) }
+        ensures err { IfErr result (Stops self.now (among self.now plain_clauses)
+            (record { keep = true; literals = 0; clauses = [] })) }
+    {
+        let tables = self.tables(alloc)?;
+        let mut count = ClauseSink::new(alloc, false);
+        tables.emit_all(alloc, &mut count)?;
+        let mut sink = count.with_room(alloc)?;
+        tables.emit_all(alloc, &mut sink)?;
+        Ok(sink)
+    }
+}
+
 /// A base with the clauses that each train comes in turn with the next one that is like it. Where a plan is feasible,
 /// the model of some plan of no more steps makes all of them true.
 fn with_turns(alloc: Global, interlocking: &Interlocking, base: Base) -> Result<Base, BaseFault>
-    requires base { IsBaseOf Plain interlocking.now.design.station interlocking.now.routes base.numbering.steps base }
-    ensures base { IfOk result
-        (IsBaseOf Sorted interlocking.now.design.station interlocking.now.routes base.numbering.steps) }
-    ensures fault { IfErr result
-        (IsRefused Sorted interlocking.now.design.station interlocking.now.routes base.numbering.steps) }
+    requires base { IsOver base.numbering.commands plain_base
+        interlocking.now.design.station interlocking.now.routes base.numbering.steps base }
+    ensures base { IfOk result (IsOver base.numbering.commands turns_base
+        interlocking.now.design.station interlocking.now.routes base.numbering.steps) }
+    ensures fault { IfErr result (AreRefused (turns_base (is_among base.numbering.commands)
+        interlocking.now.design.station interlocking.now.routes base.numbering.steps)) }
 {
     let Base {
         numbering,
         clauses,
         literals,
     } = base;
+    let neighbors = neighbors(alloc, &interlocking.design)?;
+    let mut sink = ClauseSink::behind(clauses, literals);
     let encoder = Encoder {
         interlocking,
         steps: numbering.steps(),
+        pairs: numbering.pairs(),
     };
-    let network = encoder.network(alloc)?;
-    let neighbors = neighbors(alloc, &interlocking.design)?;
-    let mut sink = ClauseSink::behind(clauses, literals);
-    network.emit_turns(alloc, &mut sink, neighbors.as_slice())?;
+    encoder.emit_turns(alloc, &mut sink, neighbors.as_slice())?;
     let literals = sink.literals();
     Ok(Base {
         numbering,
@@ -85,16 +136,8 @@ fn with_normal(alloc: Global, interlocking: &Interlocking, base: Base) -> Result
         clauses,
         literals,
     } = base;
-    let normal = NormalEncoder {
-        encoder: Encoder {
-            interlocking,
-            steps: numbering.steps(),
-        },
-        count: numbering.variables(BaseKind::Plain).count,
-    };
-    let tables = normal.tables(alloc)?;
     let mut sink = ClauseSink::behind(clauses, literals);
-    tables.emit_normal(alloc, &mut sink)?;
+    emit_normal(alloc, interlocking, &numbering, &mut sink)?;
     let literals = sink.literals();
     Ok(Base {
         numbering,
@@ -103,7 +146,34 @@ fn with_normal(alloc: Global, interlocking: &Interlocking, base: Base) -> Result
     })
 }
 
-/// The base of another kind, with the clauses that it has beside those of this one.
+/// Emits the clauses of normal plans.
+fn emit_normal(
+    alloc: Global,
+    interlocking: &Interlocking,
+    numbering: &Numbering,
+    sink: &mut ClauseSink,
+) -> Result<(), BaseFault>
+    requires { IsNumberingOf (speaks_of Plain interlocking.now.design.station interlocking.now.routes)
+        interlocking.now.design.station interlocking.now.routes numbering.now.steps numbering.now }
+    ensures ok { OnOk result (emitted sink.old (normal_part interlocking.now.design.station interlocking.now.routes
+        numbering.now.steps) ≡ Emitted sink.new) }
+    ensures err { IfErr result (FaultSays (emitted sink.old (normal_part interlocking.now.design.station
+        interlocking.now.routes numbering.now.steps))) }
+{
+    let encoder = Encoder {
+        interlocking,
+        steps: numbering.steps(),
+        pairs: numbering.pairs(),
+    };
+    let normal = NormalEncoder {
+        encoder,
+        count: numbering.variables(BaseKind::Plain).count,
+    };
+    let tables = normal.tables(alloc)?;
+    tables.emit_normal(alloc, sink)
+}
+
+/// The base of another kind, with the clauses that it has beside those of this one; that of live commands is made anew.
 ///
 /// # Errors
 ///
@@ -120,10 +190,15 @@ pub fn extended(
     ensures fault { IfErr result
         (IsRefused kind interlocking.now.design.station interlocking.now.routes base.numbering.steps) }
 {
+    let steps = base.numbering.steps();
     match kind {
         BaseKind::Plain => Ok(base),
         BaseKind::Sorted => with_turns(alloc, interlocking, base),
         BaseKind::Normal => with_normal(alloc, interlocking, base),
+        BaseKind::Live => {
+            drop(base);
+            live_base(alloc, interlocking, steps)
+        }
     }
 }
 
@@ -141,6 +216,9 @@ pub fn base_of(
     ensures base { IfOk result (IsBaseOf kind interlocking.now.design.station interlocking.now.routes steps.count) }
     ensures fault { IfErr result (IsRefused kind interlocking.now.design.station interlocking.now.routes steps.count) }
 {
+    if kind == BaseKind::Live {
+        return live_base(alloc, interlocking, steps);
+    }
     match base(alloc, interlocking, steps) {
         Ok(base) => extended(alloc, interlocking, base, kind),
         Err(fault) => Err(fault),

@@ -6,7 +6,7 @@ ghost use Rattle.clause_spec.specs.Variables.{variable_count};
 ghost use Rattle.normal_clause_spec.specs.Variables.{GivenIn, is_in, is_not_in, normal_number_of, normal_numbered};
 ghost use Rattle.normal_clause_spec.specs.Clauses.{normal_clauses};
 ghost use Rattle.route_keepers.specs.Keepers.{keepers_of};
-ghost use Rattle.plan_encoding.specs.Encoders.{IsCommand, over, station, table};
+ghost use Rattle.plan_encoding.specs.Encoders.{IsCommand, commands, over, station, table};
 ghost use Rattle.plan_encoding.specs.Normal.{EmitsNormal, StopsNormal};
 ghost use Rattle.plan_encoding.specs.Tables.{leading as leading_of, rows_by};
 
@@ -19,25 +19,25 @@ use route_keepers::keepers;
 use sat_clause::Lit;
 use std::alloc::{AllocError, Global};
 
-/// An encoder, and how many variables the plain base has. Behind these come those that commands are given in steps.
+/// An encoder of all commands, and how many variables the plain base has. Behind these come those that commands are
+/// given in steps.
 #[derive(Clone, Copy)]
 pub struct NormalEncoder<'a> {
     pub encoder: Encoder<'a>,
     pub count: u32,
+    pub ghost every_command: { commands encoder ≡ all_commands (station encoder) (table encoder) },
     pub ghost counted: { count ≡ over encoder variable_count },
     pub ghost at_most_73536256: { count ≤ 73536256 },
 }
 
-/// The commands of an encoder in order, and for each route others, in rising order.
+/// For each route of an encoder others, in rising order.
 #[derive(Drop)]
 pub struct NormalTables<'a> {
     pub normal: NormalEncoder<'a>,
-    pub commands: Vec<Command>,
     /// The routes that end where it starts.
     pub leading: Vec<List<RouteNo>>,
     /// The routes that can keep a train from a section of it.
     pub keepers: Vec<List<RouteNo>>,
-    pub ghost every_command: { commands.items ≡ all_commands (station normal.encoder) (table normal.encoder) },
     pub ghost led: { leading.items ≡ rows_by leading_of (table normal.encoder) },
     pub ghost kept: { keepers.items ≡ rows_by keepers_of (table normal.encoder) },
 }
@@ -47,12 +47,10 @@ impl<'a> NormalEncoder<'a> {
     pub fn tables(self, alloc: Global) -> Result<NormalTables<'a>, AllocError>
         ensures { IfOk result (λ tables. tables.normal ≡ self.entry) }
     {
-        let commands = self.encoder.commands(alloc)?;
         let leading = self.encoder.network(alloc)?.all_leading(alloc)?;
         let keepers = keepers(alloc, self.encoder.interlocking)?;
         Ok(NormalTables {
             normal: self,
-            commands,
             leading,
             keepers,
         })

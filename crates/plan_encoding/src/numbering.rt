@@ -1,32 +1,24 @@
 //! A base, and the numbers of its variables.
 
-ghost use Rattle.std.specs.Prelude.{◌≡◌, ◌≤◌, Some, None, length};
+ghost use Rattle.std.specs.Prelude.{◌≡◌, ◌≤◌, ◌*◌, ℕ, List, length};
+ghost use Rattle.rail_base.specs.declared.station.Station.{Station};
+ghost use Rattle.rail_base.specs.declared.route.Route.{Route};
 ghost use Rattle.base_spec.specs.Bases.{variables_of};
-ghost use Rattle.clause_spec.specs.Variables.{By, yes, numbered};
-ghost use Rattle.plan_encoding.specs.Numberings.{HasCommand, OfNumbering, given_number, before_number};
+ghost use Rattle.clause_spec.specs.Variables.{By, yes};
+ghost use Rattle.live_clause_spec.specs.Variables.{live_numbered};
+ghost use Rattle.plan_encoding.specs.Bases.{speaks_of};
+ghost use Rattle.plan_encoding.specs.Numberings.{IsNumberingOf, OfNumbering, given_number, before_number};
 
 use clause_spec::{BaseKind, VariableCounts};
-use contending::ContendingPairs;
-use interlocking::{Interlocking, Steps};
+use interlocking::Steps;
+use live_contending::ContendingPairs;
 use rail_base::plan::Command;
-use rail_base::route::RouteNo;
-use rail_base::station::TrainNo;
 use sat_clause::{Arena, Lit};
 use std::marker::Model;
-
-/// How many trains, routes and steps there are.
-#[derive(Clone, Copy, Debug, PartialEq, Eq)]
-pub struct Counts {
-    pub trains: u32,
-    pub routes: u32,
-    pub steps: u32,
-}
 
 /// The numbers of the variables of a base: of commands by their steps, of pairs that contend, and of steps.
 #[derive(Drop)]
 pub struct Numbering {
-    trains: u32,
-    routes: u32,
     steps: Steps,
     pairs: ContendingPairs,
 }
@@ -46,38 +38,38 @@ impl Model for Numbering {
     ghost Value = { Numbered };
 
     ghost view = { λ b. record {
-      trains = b.trains;
-      routes = b.routes;
       steps = b.steps.count;
-      pairs = b.pairs;
+      commands = b.pairs.commands;
+      pairs = b.pairs.pairs;
     } };
 
-    ghost invariant = { λ b. (b.trains ≤ 128) × (b.routes ≤ 2000) × (b.steps.count ≤ 256) ×
-        (length b.pairs ≤ 8000000) };
+    ghost invariant = { λ b. (b.steps.count ≤ 256) × (length b.pairs.commands ≤ 256000) ×
+        (length b.pairs.pairs ≤ 8000000) };
 }
 
 impl Numbering {
-    /// The literal that a train is given a route by a step.
-    pub fn given_lit(&self, train: TrainNo, route: RouteNo, step: u32) -> Lit
-        requires command { HasCommand self.now (record { train = train; route = route }) }
-        requires step { step ≤ self.now.steps }
-        ensures { OfNumbering self.now (λ d routes n. result ≡ given_number d routes n train route step) }
+    /// The literal that a command is given by a step; none where the base doesn't speak of it.
+    pub fn given_lit(&self, command: Command, step: u32) -> Option<Lit>
+        requires { step ≤ self.now.steps }
+        ensures { OfNumbering self.now (λ live d routes n. result ≡ given_number live d routes n command step) }
     {
-        Lit {
-            var: ((train.0 - 1) * self.routes + (route.0 - 1)) * self.steps.count + step,
-            negated: false,
+        match self.pairs.commands().number(command) {
+            Some(place) => Some(Lit {
+                var: place * self.steps.count + step,
+                negated: false,
+            }),
+            None => None,
         }
     }
 
-    /// The literal that one command is given before another; none where they don't contend.
+    /// The literal that one command is given before another; none where they don't contend, or the base doesn't speak
+    /// of both.
     pub fn before(&self, first: Command, second: Command) -> Option<Lit>
-        requires first { HasCommand self.now first }
-        requires second { HasCommand self.now second }
-        ensures { OfNumbering self.now (λ d routes n. result ≡ before_number d routes n first second) }
+        ensures { OfNumbering self.now (λ live d routes n. result ≡ before_number live d routes n first second) }
     {
         match self.pairs.place(first, second) {
             Some(place) => Some(Lit {
-                var: self.trains * self.routes * self.steps.count + place as u32 + 1,
+                var: self.given_count() + place as u32 + 1,
                 negated: false,
             }),
             None => None,
@@ -87,18 +79,19 @@ impl Numbering {
     /// The literal that all is given by a step.
     pub fn selector(&self, step: u32) -> Lit
         requires { step ≤ self.now.steps }
-        ensures { OfNumbering self.now (λ d routes n. result ≡ numbered d routes n (yes (By step))) }
+        ensures { OfNumbering self.now (λ live d routes n. result ≡ live_numbered live d routes n (yes (By step))) }
     {
         Lit {
-            var: self.trains * self.routes * self.steps.count + self.pairs.count() as u32 + step,
+            var: self.given_count() + self.pairs.count() as u32 + step,
             negated: false,
         }
     }
 
-    /// The pairs of commands that contend, in the order of their variables.
+    /// The commands that the base speaks of, with their pairs that contend, in the order of their variables.
     pub fn pairs(&self) -> &ContendingPairs
-        ensures pairs { result.now ≡ self.now.pairs }
-        ensures bound { length result.now ≤ 8000000 }
+        ensures commands { result.now.commands ≡ self.now.commands }
+        ensures pairs { result.now.pairs ≡ self.now.pairs }
+        ensures bound { length result.now.pairs ≤ 8000000 }
     {
         &self.pairs
     }
@@ -110,55 +103,38 @@ impl Numbering {
         self.steps
     }
 
-    /// How many trains, routes and steps there are.
-    pub fn counts(&self) -> Counts
-        ensures trains { result.trains ≡ self.now.trains }
-        ensures routes { result.routes ≡ self.now.routes }
-        ensures steps { result.steps ≡ self.now.steps }
-    {
-        Counts {
-            trains: self.trains,
-            routes: self.routes,
-            steps: self.steps.count,
-        }
-    }
-
     /// How many variables a base has, and how many come before those that all is given by a step.
     pub fn variables(&self, kind: BaseKind) -> VariableCounts
-        ensures { OfNumbering self.now (λ d routes n. result ≡ variables_of kind d routes n) }
+        ensures { (d : Station) (routes : List Route) (n : ℕ)
+            → IsNumberingOf (speaks_of kind d routes) d routes n self.now → result ≡ variables_of kind d routes n }
     {
-        let given = self.trains * self.routes * self.steps.count;
+        let given = self.given_count();
         let before_selectors = given + self.pairs.count() as u32;
         let count = before_selectors + self.steps.count;
         VariableCounts {
             count: match kind {
-                BaseKind::Plain | BaseKind::Sorted => count,
+                BaseKind::Plain | BaseKind::Sorted | BaseKind::Live => count,
                 BaseKind::Normal => count + given,
             },
             before_selectors,
             steps: self.steps.count,
         }
     }
+
+    /// How many variables say that a command is given by a step.
+    fn given_count(&self) -> u32
+        ensures value { result ≡ length self.now.commands * self.now.steps }
+        ensures bound { result ≤ 65536000 }
+    {
+        self.pairs.commands().count() as u32 * self.steps.count
+    }
 }
 
-/// The numbers of the variables, where these pairs contend.
-pub fn number_variables(
-    interlocking: &Interlocking,
-    steps: Steps,
-    pairs: ContendingPairs,
-) -> Numbering
-    requires pairs { length pairs ≤ 8000000 }
-    ensures { result ≡ record {
-      trains = length interlocking.now.design.station.trains;
-      routes = length interlocking.now.routes;
-      steps = steps.count;
-      pairs = pairs;
-    } }
+/// The numbers of the variables for so many steps, of these commands and their pairs that contend.
+pub fn number_variables(steps: Steps, pairs: ContendingPairs) -> Numbering
+    requires commands { length pairs.commands ≤ 256000 }
+    requires pairs { length pairs.pairs ≤ 8000000 }
+    ensures { result ≡ record { steps = steps.count; commands = pairs.commands; pairs = pairs.pairs } }
 {
-    Numbering {
-        trains: interlocking.design.station.trains.len() as u32,
-        routes: interlocking.routes.len() as u32,
-        steps,
-        pairs,
-    }
+    Numbering { steps, pairs }
 }

@@ -19,8 +19,9 @@ impl Tables<'_> {
         ensures ok { OnOk result (Emits self.now.encoder (all_in_order self.now.encoder) sink.old sink.new) }
         ensures err { IfErr result (Stops self.now.encoder (all_in_order self.now.encoder) sink.old) }
     {
-        let mut last = self.commands.len() as u32 * self.encoder.steps.count;
-        for command in &self.commands {
+        let commands = self.encoder.commands();
+        let mut last = commands.len() as u32 * self.encoder.steps.count;
+        for command in commands {
             let rivals = self.rivals(alloc, *command)?;
             let contenders = Contenders {
                 encoder: self.encoder,

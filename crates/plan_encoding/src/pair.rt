@@ -1,9 +1,10 @@
 //! Pairs of commands that contend.
 
 ghost use Rattle.std.specs.Prelude.{◌≡◌, ◌<◌, ◌+◌, ◌^◌, All, length};
-ghost use Rattle.clause_spec.specs.Variables.{Before, number_of};
+ghost use Rattle.clause_spec.specs.Variables.{Before};
+ghost use Rattle.live_clause_spec.specs.Variables.{live_number};
 ghost use Rattle.plan_encoding.specs.Families.{Follow};
-ghost use Rattle.plan_encoding.specs.Encoders.{IsCommand, over};
+ghost use Rattle.plan_encoding.specs.Encoders.{IsCommand, among};
 
 use crate::encoder::Encoder;
 use rail_base::plan::Command;
@@ -17,7 +18,7 @@ pub struct Pair<'a> {
     pub variable: u32,
     pub ghost first_known: { IsCommand encoder first },
     pub ghost second_known: { IsCommand encoder second },
-    pub ghost number: { variable ≡ over encoder number_of (Before first second) },
+    pub ghost number: { variable ≡ among encoder live_number (Before first second) },
 }
 
 /// A command and the commands that contend with it, and the number on which those of their variables follow.

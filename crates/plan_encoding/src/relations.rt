@@ -12,7 +12,6 @@ use crate::encoder::Encoder;
 use crate::links::{exclude, push_if};
 use crate::network::Network;
 use crate::tables::Tables;
-use contending::ContendingPairs;
 use interlocking::goes_on;
 use rail_base::list::List;
 use rail_base::route::{RouteNo, Start, route_at};
@@ -150,24 +149,18 @@ impl<'a> Network<'a> {
     }
 
     /// The tables of the encoder.
-    fn tables(self, alloc: Global) -> Result<Tables<'a>, AllocError>
-        ensures { IfOk result (λ tables. tables.encoder ≡ self.entry.encoder) }
+    fn tables(&self, alloc: Global) -> Result<Tables<'a>, AllocError>
+        ensures { IfOk result (λ tables. tables.encoder ≡ self.now.encoder) }
     {
         let trains = self.encoder.trains(alloc)?;
-        let commands = self.encoder.commands(alloc)?;
         let leading = self.all_leading(alloc)?;
         let going_on = self.all_going_on(alloc)?;
-        let pairs = ContendingPairs::new(alloc, self.encoder.interlocking)?;
         let exclusions = self.exclusions(alloc)?;
-        let Network { encoder, numbers } = self;
         Ok(Tables {
-            encoder,
+            encoder: self.encoder,
             trains,
-            numbers,
-            commands,
             leading,
             going_on,
-            pairs,
             exclusions,
         })
     }

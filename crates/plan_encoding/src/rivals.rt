@@ -14,6 +14,6 @@ impl Tables<'_> {
         requires command { IsCommand self.now.encoder command }
         ensures { IfOk result (λ cs. cs.items ≡ rivals_of self.now.encoder command) }
     {
-        self.pairs.rivals(alloc, command)
+        self.encoder.pairs.rivals(alloc, command)
     }
 }

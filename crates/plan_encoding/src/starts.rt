@@ -1,19 +1,17 @@
 //! A route starts at a boundary of the first visit, or where an earlier one of the train ends.
 
-ghost use Rattle.std.specs.Prelude.{◌≡◌, ◌≤◌, All, IfOk, OnOk, IfErr};
-ghost use Rattle.rail_base.specs.Routes.{IsRoute};
+ghost use Rattle.std.specs.Prelude.{◌≡◌, ◌≤◌, IfOk, OnOk, IfErr};
 ghost use Rattle.rail_base.specs.Stations.{IsTrain, first_visit, train_of};
 ghost use Rattle.rail_spec.specs.Plans.{has_node};
-ghost use Rattle.clause_spec.specs.Clauses.{starts_rightly};
+ghost use Rattle.live_clause_spec.specs.Listed.{live_starts_rightly};
 ghost use Rattle.plan_encoding.specs.Families.{all_start_rightly, led_clause, led_always, never_given};
-ghost use Rattle.plan_encoding.specs.Encoders.{IsCommand, Emits, Stops, over, station, table, written};
-ghost use Rattle.plan_encoding.specs.Tables.{leading};
+ghost use Rattle.plan_encoding.specs.Encoders.{HasCommands, IsCommand, Emits, Stops, among, station, written};
 
 use crate::encoder::Encoder;
 use crate::sink::{BaseFault, ClauseSink};
 use crate::tables::Tables;
-use contending::row_of;
 use interlocking::has_node;
+use live_contending::row_of;
 use rail_base::plan::Command;
 use rail_base::route::{RouteNo, Start, route_at};
 use rail_base::station::{NodeNo, TrainNo};
@@ -26,7 +24,7 @@ impl Tables<'_> {
         ensures ok { OnOk result (Emits self.now.encoder (all_start_rightly self.now.encoder) sink.old sink.new) }
         ensures err { IfErr result (Stops self.now.encoder (all_start_rightly self.now.encoder) sink.old) }
     {
-        for command in &self.commands {
+        for command in self.encoder.commands() {
             self.emit_starts_of(alloc, sink, *command)?;
         }
         Ok(())
@@ -40,9 +38,10 @@ impl Tables<'_> {
         command: Command,
     ) -> Result<(), BaseFault>
         requires command { IsCommand self.now.encoder command }
-        ensures ok { OnOk result (Emits self.now.encoder (over self.now.encoder starts_rightly command)
+        ensures ok { OnOk result (Emits self.now.encoder (among self.now.encoder live_starts_rightly command)
             sink.old sink.new) }
-        ensures err { IfErr result (Stops self.now.encoder (over self.now.encoder starts_rightly command) sink.old) }
+        ensures err { IfErr result
+            (Stops self.now.encoder (among self.now.encoder live_starts_rightly command) sink.old) }
     {
         match route_at(&self.encoder.interlocking.routes, command.route).start {
             Start::Boundary(node) => {
@@ -52,8 +51,9 @@ impl Tables<'_> {
                 self.encoder.emit_never(sink, command)
             }
             Start::Signal(_) => {
-                let leading = row_of(&self.leading, command.route);
-                self.encoder.emit_led(alloc, sink, command, leading)
+                let row = row_of(&self.leading, command.route);
+                let leading = self.encoder.routes_among(alloc, command.train, row)?;
+                self.encoder.emit_led(alloc, sink, command, &leading)
             }
         }
     }
@@ -81,7 +81,7 @@ impl Encoder<'_> {
         step: u32,
     ) -> Result<Vec<Lit>, AllocError>
         requires command { IsCommand self.now command }
-        requires leading { All (IsRoute (table self.now)) leading.now }
+        requires leading { HasCommands self.now command.train leading.now }
         requires at_least_one { 1 ≤ step }
         requires step { step ≤ self.now.steps.count }
         ensures { IfOk result (λ clause. clause.items ≡ written self.now (led_clause command leading.now step)) }
@@ -107,7 +107,7 @@ impl Encoder<'_> {
         leading: &[RouteNo],
     ) -> Result<(), BaseFault>
         requires command { IsCommand self.now command }
-        requires leading { All (IsRoute (table self.now)) leading.now }
+        requires leading { HasCommands self.now command.train leading.now }
         ensures ok { OnOk result (Emits self.now (led_always self.now command leading.now) sink.old sink.new) }
         ensures err { IfErr result (Stops self.now (led_always self.now command leading.now) sink.old) }
     {

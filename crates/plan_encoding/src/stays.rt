@@ -1,9 +1,10 @@
 //! What is given stays given, and by a step all may be given.
 
 ghost use Rattle.std.specs.Prelude.{◌≤◌, OnOk, IfErr};
-ghost use Rattle.clause_spec.specs.Clauses.{all_given, stays_given};
+ghost use Rattle.clause_spec.specs.Clauses.{stays_given};
+ghost use Rattle.live_clause_spec.specs.Listed.{live_all_given};
 ghost use Rattle.plan_encoding.specs.Families.{all_by_steps, all_stay};
-ghost use Rattle.plan_encoding.specs.Encoders.{IsCommand, Emits, Stops, over};
+ghost use Rattle.plan_encoding.specs.Encoders.{IsCommand, Emits, Stops, among, over};
 
 use crate::encoder::Encoder;
 use crate::selectors::Selectors;
@@ -18,7 +19,7 @@ impl Tables<'_> {
         ensures ok { OnOk result (Emits self.now.encoder (all_stay self.now.encoder) sink.old sink.new) }
         ensures err { IfErr result (Stops self.now.encoder (all_stay self.now.encoder) sink.old) }
     {
-        for command in &self.commands {
+        for command in self.encoder.commands() {
             self.encoder.emit_stays_of(sink, *command)?;
         }
         Ok(())
@@ -44,17 +45,16 @@ impl Selectors<'_> {
         requires at_least_one { 1 ≤ step }
         requires step { step ≤ self.now.tables.now.encoder.steps.count }
         ensures ok { OnOk result (Emits self.now.tables.now.encoder
-            (over self.now.tables.now.encoder all_given step) sink.old sink.new) }
+            (among self.now.tables.now.encoder live_all_given step) sink.old sink.new) }
         ensures err { IfErr result (Stops self.now.tables.now.encoder
-            (over self.now.tables.now.encoder all_given step) sink.old) }
+            (among self.now.tables.now.encoder live_all_given step) sink.old) }
     {
-        let tables = self.tables;
-        let encoder = tables.encoder;
+        let encoder = self.tables.encoder;
         let by = Lit {
             var: self.last + step,
             negated: true,
         };
-        for command in &tables.commands {
+        for command in encoder.commands() {
             sink.emit(&[
                 by,
                 encoder.not_given_lit(*command, encoder.steps.count),

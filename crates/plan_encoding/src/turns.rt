@@ -1,16 +1,17 @@
 //! Each train comes in turn with the next one that is like it.
 
-ghost use Rattle.std.specs.Prelude.{◌≡◌, ◌≤◌, All, IfOk, OnOk, IfErr};
+ghost use Rattle.std.specs.Prelude.{◌≡◌, ◌≤◌, IfOk, OnOk, IfErr};
 ghost use Rattle.rail_base.specs.Routes.{IsRoute};
 ghost use Rattle.rail_base.specs.Stations.{IsTrain};
 ghost use Rattle.rail_alike.specs.Turns.{AreNamed};
-ghost use Rattle.alike_clause_spec.specs.Turns.{beginnings, begins, in_turn};
+ghost use Rattle.alike_clause_spec.specs.Turns.{begins};
+ghost use Rattle.live_clause_spec.specs.Listed.{live_beginnings, live_in_turn};
 ghost use Rattle.plan_encoding.specs.Families.{all_in_turn, begun_clause, begun_throughout};
-ghost use Rattle.plan_encoding.specs.Encoders.{IsCommand, Emits, Stops, over, station, table, written};
+ghost use Rattle.plan_encoding.specs.Encoders.{HasCommands, IsCommand, Emits, Stops, among, over};
+ghost use Rattle.plan_encoding.specs.Encoders.{station, table, written};
 
 use crate::encoder::Encoder;
 use crate::links::push_if;
-use crate::network::Network;
 use crate::sink::{BaseFault, ClauseSink};
 use interlocking::starts_in;
 use rail_base::plan::Command;
@@ -19,7 +20,7 @@ use rail_base::station::TrainNo;
 use sat_clause::Lit;
 use std::alloc::{AllocError, Global};
 
-impl Network<'_> {
+impl Encoder<'_> {
     /// Emits that the trains of each pair come in turn.
     pub fn emit_turns(
         &self,
@@ -27,9 +28,9 @@ impl Network<'_> {
         sink: &mut ClauseSink,
         pairs: &[(TrainNo, TrainNo)],
     ) -> Result<(), BaseFault>
-        requires { AreNamed (station self.now.encoder) pairs.now }
-        ensures ok { OnOk result (Emits self.now.encoder (all_in_turn self.now.encoder pairs.now) sink.old sink.new) }
-        ensures err { IfErr result (Stops self.now.encoder (all_in_turn self.now.encoder pairs.now) sink.old) }
+        requires { AreNamed (station self.now) pairs.now }
+        ensures ok { OnOk result (Emits self.now (all_in_turn self.now pairs.now) sink.old sink.new) }
+        ensures err { IfErr result (Stops self.now (all_in_turn self.now pairs.now) sink.old) }
     {
         for pair in pairs {
             self.emit_turns_of(alloc, sink, *pair)?;
@@ -37,14 +38,15 @@ impl Network<'_> {
         Ok(())
     }
 
-    /// The routes with which a train may begin.
+    /// The routes of a train's commands with which it may begin.
     fn beginnings(&self, alloc: Global, train: TrainNo) -> Result<Vec<RouteNo>, AllocError>
-        requires { IsTrain (station self.now.encoder) train }
-        ensures { IfOk result (λ rs. rs.items ≡ over self.now.encoder beginnings train) }
+        requires { IsTrain (station self.now) train }
+        ensures value { IfOk result (λ rs. rs.items ≡ among self.now live_beginnings train) }
+        ensures known { IfOk result (λ rs. HasCommands self.now train rs.items) }
     {
         let mut routes = Vec::new(alloc);
-        for route in &self.numbers {
-            let belongs = self.encoder.begins(train, *route);
+        for route in self.routes_of(train) {
+            let belongs = self.begins(train, *route);
             push_if(&mut routes, *route, belongs)?;
         }
         Ok(routes)
@@ -57,10 +59,10 @@ impl Network<'_> {
         sink: &mut ClauseSink,
         pair: (TrainNo, TrainNo),
     ) -> Result<(), BaseFault>
-        requires earlier { IsTrain (station self.now.encoder) pair.0 }
-        requires later { IsTrain (station self.now.encoder) pair.1 }
-        ensures ok { OnOk result (Emits self.now.encoder (over self.now.encoder in_turn pair) sink.old sink.new) }
-        ensures err { IfErr result (Stops self.now.encoder (over self.now.encoder in_turn pair) sink.old) }
+        requires earlier { IsTrain (station self.now) pair.0 }
+        requires later { IsTrain (station self.now) pair.1 }
+        ensures ok { OnOk result (Emits self.now (among self.now live_in_turn pair) sink.old sink.new) }
+        ensures err { IfErr result (Stops self.now (among self.now live_in_turn pair) sink.old) }
     {
         let first = self.beginnings(alloc, pair.0)?;
         let then = self.beginnings(alloc, pair.1)?;
@@ -69,14 +71,11 @@ impl Network<'_> {
                 train: pair.1,
                 route: *route,
             };
-            self.encoder
-                .emit_begun(alloc, sink, pair.0, &first, command)?;
+            self.emit_begun(alloc, sink, pair.0, &first, command)?;
         }
         Ok(())
     }
-}
 
-impl Encoder<'_> {
     /// Whether a train may begin with a route.
     fn begins(&self, train: TrainNo, route: RouteNo) -> bool
         requires train { IsTrain (station self.now) train }
@@ -106,8 +105,7 @@ impl Encoder<'_> {
         command: Command,
         step: u32,
     ) -> Result<Vec<Lit>, AllocError>
-        requires earlier { IsTrain (station self.now) earlier }
-        requires routes { All (IsRoute (table self.now)) routes.now }
+        requires routes { HasCommands self.now earlier routes.now }
         requires command { IsCommand self.now command }
         requires step { step ≤ self.now.steps.count }
         ensures { IfOk result
@@ -128,8 +126,7 @@ impl Encoder<'_> {
         routes: &[RouteNo],
         command: Command,
     ) -> Result<(), BaseFault>
-        requires earlier { IsTrain (station self.now) earlier }
-        requires routes { All (IsRoute (table self.now)) routes.now }
+        requires routes { HasCommands self.now earlier routes.now }
         requires command { IsCommand self.now command }
         ensures ok { OnOk result (Emits self.now (begun_throughout self.now earlier routes.now command)
             sink.old sink.new) }

@@ -6,9 +6,10 @@ ghost use Rattle.number_sets.specs.Sets.{contains};
 ghost use Rattle.rail_base.specs.Numbering.{after_first};
 ghost use Rattle.rail_base.specs.Routes.{IsRoute};
 ghost use Rattle.rail_base.specs.Stations.{IsTrain};
-ghost use Rattle.clause_spec.specs.Clauses.{makes_visits, may_visit};
+ghost use Rattle.clause_spec.specs.Clauses.{may_visit};
+ghost use Rattle.live_clause_spec.specs.Listed.{live_makes_visits};
 ghost use Rattle.plan_encoding.specs.Families.{all_visits, visited_on};
-ghost use Rattle.plan_encoding.specs.Encoders.{Emits, Stops, over, station, table, written};
+ghost use Rattle.plan_encoding.specs.Encoders.{Emits, Stops, among, over, station, table, written};
 
 use crate::encoder::Encoder;
 use crate::links::push_if;
@@ -55,7 +56,7 @@ impl Tables<'_> {
             set: nodes_of(alloc, set)?,
         };
         let mut clause = Vec::new(alloc);
-        for route in &self.numbers {
+        for route in self.encoder.routes_of(train) {
             let command = Command {
                 train,
                 route: *route,
@@ -75,8 +76,9 @@ impl Tables<'_> {
         train: TrainNo,
     ) -> Result<(), BaseFault>
         requires train { IsTrain (station self.now.encoder) train }
-        ensures ok { OnOk result (Emits self.now.encoder (over self.now.encoder makes_visits train) sink.old sink.new) }
-        ensures err { IfErr result (Stops self.now.encoder (over self.now.encoder makes_visits train) sink.old) }
+        ensures ok { OnOk result (Emits self.now.encoder (among self.now.encoder live_makes_visits train)
+            sink.old sink.new) }
+        ensures err { IfErr result (Stops self.now.encoder (among self.now.encoder live_makes_visits train) sink.old) }
     {
         let design = &self.encoder.interlocking.design;
         let visits = design.train(train).visits.as_slice();

@@ -5,9 +5,12 @@ ghost use Rattle.std.specs.List.{list_any};
 ghost use Rattle.rail_base.specs.Routes.{IsRoute, route_at};
 ghost use Rattle.rail_base.specs.Stations.{IsTrain};
 ghost use Rattle.rail_spec.specs.Plans.{is_start};
-ghost use Rattle.clause_spec.specs.Clauses.{chain_length, onward, waits};
+ghost use Rattle.clause_spec.specs.Clauses.{chain_length};
+ghost use Rattle.live_clause_spec.specs.Listed.{live_onward, live_waits};
+ghost use Rattle.command_set.specs.Commands.{is_among};
 ghost use Rattle.plan_encoding.specs.Families.{all_wait, each_with, one_given, one_not_given};
-ghost use Rattle.plan_encoding.specs.Encoders.{IsCommand, Emits, Stops, station, table, written};
+ghost use Rattle.plan_encoding.specs.Encoders.{HasCommands, IsCommand, Emits, Stops, among, commands};
+ghost use Rattle.plan_encoding.specs.Encoders.{station, table, written};
 ghost use Rattle.plan_encoding.specs.Waits.{frame_of, waits_at, waits_for_it, waits_in, waits_on};
 
 use crate::encoder::Encoder;
@@ -15,7 +18,7 @@ use crate::releases::{clearing, releases};
 use crate::sink::{BaseFault, ClauseSink};
 use crate::tables::Tables;
 use crate::wait::{Releasing, Wait};
-use contending::row_of;
+use live_contending::row_of;
 use rail_base::plan::Command;
 use rail_base::route::{RouteNo, Start, route_at};
 use rail_base::station::TrainNo;
@@ -31,8 +34,7 @@ impl Encoder<'_> {
         routes: &[RouteNo],
         step: u32,
     ) -> Result<(), AllocError>
-        requires train { IsTrain (station self.now) train }
-        requires routes { All (IsRoute (table self.now)) routes.now }
+        requires routes { HasCommands self.now train routes.now }
         requires step { step ≤ self.now.steps.count }
         ensures { OnOk result (clause.new.items ≡ clause.old.items
             ++ written self.now (one_given train routes.now step)) }
@@ -68,8 +70,7 @@ impl Encoder<'_> {
         routes: &[RouteNo],
         step: u32,
     ) -> Result<(), AllocError>
-        requires train { IsTrain (station self.now) train }
-        requires routes { All (IsRoute (table self.now)) routes.now }
+        requires routes { HasCommands self.now train routes.now }
         requires step { step ≤ self.now.steps.count }
         ensures { OnOk result (clause.new.items ≡ clause.old.items
             ++ written self.now (one_not_given train routes.now step)) }
@@ -94,24 +95,28 @@ impl Tables<'_> {
         if self.encoder.steps.count == 1 {
             return Ok(());
         }
-        for command in &self.commands {
+        for command in self.encoder.commands() {
             let rivals = self.rivals(alloc, *command)?;
             self.emit_waits_for(alloc, sink, *command, &rivals)?;
         }
         Ok(())
     }
 
-    /// The routes with which a chain goes on: all that start where its last one ends, unless one of the chain starts
-    /// there.
+    /// The routes of a train's commands with which a chain goes on: all that start where its last one ends, unless one
+    /// of the chain starts there.
     fn onward(
         &self,
         alloc: Global,
+        train: TrainNo,
         chain: &[RouteNo],
         last: RouteNo,
     ) -> Result<Vec<RouteNo>, AllocError>
+        requires train { IsTrain (station self.now.encoder) train }
         requires chain { All (IsRoute (table self.now.encoder)) chain.now }
         requires last { IsRoute (table self.now.encoder) last }
-        ensures { IfOk result (λ rs. rs.items ≡ onward (table self.now.encoder) chain.now last) }
+        ensures value { IfOk result (λ rs. rs.items
+            ≡ live_onward (is_among (commands self.now.encoder)) (table self.now.encoder) train chain.now last) }
+        ensures known { IfOk result (λ rs. HasCommands self.now.encoder train rs.items) }
     {
         let row = row_of(&self.going_on, last);
         let Some(first) = row.first() else {
@@ -121,7 +126,7 @@ impl Tables<'_> {
         if self.encoder.start_there(chain, start) {
             return Ok(Vec::new(alloc));
         }
-        Vec::from_slice(alloc, row)
+        self.encoder.routes_among(alloc, train, row)
     }
 
     /// Emits that rivals wait for a command; for one whose route exits no chain is emitted.
@@ -134,10 +139,11 @@ impl Tables<'_> {
     ) -> Result<(), BaseFault>
         requires first { IsCommand self.now.encoder first }
         requires rivals { All (IsCommand self.now.encoder) rivals.now }
-        ensures ok { OnOk result (Emits self.now.encoder (each_with self.now.encoder waits first rivals.now)
+        ensures ok { OnOk result
+            (Emits self.now.encoder (each_with (among self.now.encoder live_waits) first rivals.now)
             sink.old sink.new) }
         ensures err { IfErr result
-            (Stops self.now.encoder (each_with self.now.encoder waits first rivals.now) sink.old) }
+            (Stops self.now.encoder (each_with (among self.now.encoder live_waits) first rivals.now) sink.old) }
     {
         if rivals.is_empty() {
             return Ok(());
@@ -168,8 +174,8 @@ impl Wait<'_> {
         further: &[RouteNo],
         step: u32,
     ) -> Result<Vec<Lit>, AllocError>
-        requires chain { All (IsRoute (table (frame_of self.now))) chain.now }
-        requires further { All (IsRoute (table (frame_of self.now))) further.now }
+        requires chain { HasCommands (frame_of self.now) self.now.first.train chain.now }
+        requires further { HasCommands (frame_of self.now) self.now.first.train further.now }
         requires step { step + 1 ≤ (frame_of self.now).steps.count }
         ensures { IfOk result (λ clause. clause.items
             ≡ written (frame_of self.now) (waits_in self.now chain.now further.now step)) }
@@ -191,8 +197,8 @@ impl Wait<'_> {
         chain: &[RouteNo],
         further: &[RouteNo],
     ) -> Result<(), BaseFault>
-        requires chain { All (IsRoute (table (frame_of self.now))) chain.now }
-        requires further { All (IsRoute (table (frame_of self.now))) further.now }
+        requires chain { HasCommands (frame_of self.now) self.now.first.train chain.now }
+        requires further { HasCommands (frame_of self.now) self.now.first.train further.now }
         ensures ok { OnOk result (Emits (frame_of self.now) (waits_at self.now chain.now further.now)
             sink.old sink.new) }
         ensures err { IfErr result (Stops (frame_of self.now) (waits_at self.now chain.now further.now) sink.old) }
@@ -214,10 +220,10 @@ impl Wait<'_> {
         route: RouteNo,
         more: u32,
     ) -> Result<(), BaseFault>
-        requires chain { All (IsRoute (table (frame_of self.now))) chain.old.items }
+        requires chain { HasCommands (frame_of self.now) self.now.first.train chain.old.items }
         requires covered { covered ≡ chain_length (table (frame_of self.now)) chain.old.items }
         requires within_bound { covered ≤ self.now.bound }
-        requires route { IsRoute (table (frame_of self.now)) route }
+        requires route { IsCommand (frame_of self.now) (record { train = self.now.first.train; route = route }) }
         ensures same { OnOk result (chain.new.items ≡ chain.old.items) }
         ensures ok { OnOk result (Emits (frame_of self.now)
             (waits_on self.now more chain.old.items route) sink.old sink.new) }
@@ -237,7 +243,7 @@ impl Wait<'_> {
             return Ok(());
         }
         chain.push(route)?;
-        let further = self.tables.onward(alloc, chain, route)?;
+        let further = self.tables.onward(alloc, self.first.train, chain, route)?;
         self.emit_wait(alloc, sink, chain, &further)?;
         for next in &further {
             self.emit_chains(alloc, sink, chain, total, *next, more - 1)?;

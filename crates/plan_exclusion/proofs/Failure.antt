@@ -1,7 +1,13 @@
 -- The exclusion of a plan by the cone of its failure.
-use Rattle.std.proofs.Common.{◌≡◌, ℕ, ◌≤◌, true, List, Ok, refl, sym, ap, subst, ◌∙◌, arith}
-use Rattle.cone_clause.specs.Numbered.{numbered_clause}
-use Rattle.proof_judge.specs.Judged.{refuted}
+use Rattle.std.proofs.Common.{◌≡◌, ℕ, ◌≤◌, Bool, true, List, is_none, Option, None, Some, refl, sym, ap, subst, ◌∙◌, arith}
+use Rattle.base_spec.specs.Bases.{HasModelFor, clauses_of}
+use Rattle.base_spec.proofs.Models.{gives_plan}
+use Rattle.cone_clause.specs.Numbered.{base_clause}
+use Rattle.command_set.specs.Commands.{is_among}
+use Rattle.live_clause_spec.specs.Clauses.{left_of}
+use Rattle.live_clause_spec.specs.Variables.{live_commands}
+use Rattle.plan_encoding.specs.Bases.{speaks_of}
+use Rattle.proof_judge.proofs.Deciding.{cone_shown, cone_so}
 use Rattle.proof_log.specs.declared.line.Line.TheVariants.{Refute}
 use Rattle.proof_log.specs.Text.{text_of_line}
 use Rattle.rail_base.specs.declared.history.TrainHistory.{TrainHistory}
@@ -12,10 +18,9 @@ use Rattle.rail_base.specs.declared.route.Route.{Route}
 use Rattle.rail_base.specs.declared.station.Station.{Station}
 use Rattle.rail_base.specs.Admitted.{IsAdmitted}
 use Rattle.bound_spec.specs.declared.Evidence.TheVariants as evidence
-use Rattle.bound_spec.specs.declared.EvidenceFault.TheVariants as of
 use Rattle.cone_spec.specs.declared.Cone.{Cone}
 use Rattle.cone_spec.specs.Laws.{Refutes}
-use Rattle.cone_spec.specs.Validity.{fault_of}
+use Rattle.cone_spec.specs.Validity.{fault_of, in_design}
 use Rattle.cone_spec.proofs.Refusing.{holds_of_valid}
 use Rattle.slice_spec.specs.Holders.{GivesEach}
 use Rattle.slice_spec.specs.Leasts.{IsSliceOf}
@@ -23,19 +28,22 @@ use Rattle.rail_spec.specs.Feasible.{IsWellFormed, IsRunnable}
 use Rattle.rail_spec.specs.Histories.{verdict_of}
 use Rattle.rail_spec.specs.Track.{routes_of}
 use Rattle.sat_clause.specs.declared.lit.Lit.{Lit}
-use Rattle.sat_clause.specs.Hints.{is_assigned}
+use Rattle.sat_core.specs.Models.{value_in}
 use Rattle.timing_refuter.specs.Small.{IsSmall}
 use Rattle.clause_spec.specs.declared.question.BaseKind.{BaseKind}
 use Rattle.plan_exclusion.specs.Exclusions.{IsExclusion}
-use Rattle.plan_exclusion.specs.Failures.{FailsSo}
-use Rattle.proof_judge.proofs.Below.{numbered-below}
+use Rattle.plan_exclusion.specs.Failures.{AreValuesOfPlan, FailsSo, IsRefutedBy}
+use Rattle.plan_exclusion.proofs.Denying.{evidence_denies}
 use Rattle.plan_exclusion.proofs.Forming.{well_formed_within}
-use Rattle.proof_judge.proofs.Showing.{valid_shows}
+use Rattle.plan_exclusion.proofs.Within.{assigned_within}
 use Rattle.plan_exclusion.proofs.Written.{cone-written}
 
--- a cone that refutes the plan shows its clause
-cone_shows : (d : Station) (n : ℕ) (plan : List (List Command)) (cone : Cone) → Refutes d (routes_of d) n cone plan → refuted d n (evidence.Cone cone) ≡ Ok (numbered_clause d (routes_of d) n cone)
-cone_shows d n plan cone refutes = valid_shows of.Cone (fault_of d (routes_of d) cone) (numbered_clause d (routes_of d) n cone) refutes.valid
+none_is : {X : Type 0} (o : Option X) → is_none o ≡ true → o ≡ None
+none_is None h = refl
+none_is (Some x) h = absurd (cc)
+
+not_some : (c : List Lit) → None ≡ Some c → ⊥
+not_some c e = cc
 
 module _ (d : Station) (n : ℕ) (routes : List Route) (table : routes ≡ routes_of d) (plan : List (List Command)) (runs : IsRunnable d (routes_of d) n plan) where
   -- it is well formed over the table for 256 steps, and for n
@@ -54,19 +62,35 @@ module _ (d : Station) (n : ℕ) (routes : List Route) (table : routes ≡ route
         le-refl : (k : ℕ) → k ≤ k
         le-refl k = omega arith
 
-    -- the line and the clause of the cone exclude it, whatever the method
-    pub excluded_so : (m : BaseKind) (history : List TrainHistory) (tick : ℕ) (violation : Violation) → FailsSo d plan history tick violation → IsSliceOf d routes plan tick violation cone
-        → (line : List ℕ) (clause : List Lit) → line ≡ text_of_line (Refute (evidence.Cone cone)) → clause ≡ numbered_clause d routes n cone → IsExclusion m d n plan line clause
-    excluded_so m history tick violation fails is line clause text same =
-        let own : Refutes d (routes_of d) n cone plan = subst (λ (r : List Route). Refutes d r n cone plan) table refutes_so in
-        let told : clause ≡ numbered_clause d (routes_of d) n cone = same ∙ ap (λ (r : List Route). numbered_clause d r n cone) table in
-        record {
-          evidence = evidence.Cone cone;
-          refuted_by = (record { history = history; tick = tick; violation = violation; fails = fails }, subst (λ (r : List Route). IsSliceOf d r plan tick violation cone) table is);
-          shows = cone_shows d n plan cone own ∙ ap Ok (sym told);
-          clause_is = told;
-          below = λ l h. numbered-below d (routes_of d) n some cone (holds_of_valid d (routes_of d) cone own.valid).in_design l (subst (λ (c : List Lit). is_assigned c l ≡ true) told h);
-          stands = refl;
-          written = cone-written d good routes n cone plan most refutes_so (small each);
-          line_is = text;
-        }
+    module _ (history : List TrainHistory) (tick : ℕ) (violation : Violation) (fails : FailsSo d plan history tick violation) (is : IsSliceOf d routes plan tick violation cone)
+        (kind : BaseKind) (cs : List Command) (speaks : cs ≡ live_commands (speaks_of kind d routes) d routes) where
+      -- it shows that the plan fails
+      refuted_by : IsRefutedBy d plan (evidence.Cone cone)
+      refuted_by = (record { history = history; tick = tick; violation = violation; fails = fails }, subst (λ (r : List Route). IsSliceOf d r plan tick violation cone) table is)
+
+      fits : in_design d routes cone ≡ true
+      fits = (holds_of_valid d routes cone refutes_so.valid).in_design
+
+      -- something is left of its clause, since the plan's values make it false
+      pub stays : (values : List Bool) → AreValuesOfPlan kind d n values plan → None ≡ left_of (is_among cs) d routes n (base_clause d routes n cone) → ⊥
+      stays values told none =
+          let clauses = clauses_of kind d (routes_of d) n in
+          let model : HasModelFor kind d (routes_of d) n plan clauses =
+          subst (λ (p : List (List Command)). HasModelFor kind d (routes_of d) n p clauses) (sym told.decoded) (gives_plan kind d n some (value_in values) told.holds) in
+          let left = evidence_denies kind d good n some plan runs each clauses model (evidence.Cone cone) refuted_by in
+          not_some left.0 (none ∙ (cone_so kind d routes table n some cs speaks cone fits ∙ left.1))
+
+      -- the line and what is left of the clause exclude it
+      pub excluded_so : (line : List ℕ) (clause : List Lit) → line ≡ text_of_line (Refute (evidence.Cone cone)) → Some clause ≡ left_of (is_among cs) d routes n (base_clause d routes n cone) → IsExclusion kind d n plan line clause
+      excluded_so line clause text left =
+          let shows = cone_shown kind d routes table n some cs speaks cone fits clause left (none_is (fault_of d routes cone) refutes_so.valid) in
+          record {
+            evidence = evidence.Cone cone;
+            refuted_by = refuted_by;
+            shows = shows;
+            left = sym (cone_so kind d routes table n some cs speaks cone fits) ∙ sym left;
+            below = assigned_within kind d n some (evidence.Cone cone) clause shows;
+            stands = refl;
+            written = cone-written d good routes n cone plan most refutes_so (small each);
+            line_is = text;
+          }

@@ -6,3 +6,4 @@ pub mod Forming
 pub mod Modelling
 pub mod Truth
 pub mod Written
+pub mod Within

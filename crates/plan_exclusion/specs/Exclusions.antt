@@ -1,8 +1,8 @@
 -- Lines that exclude plans.
-use Rattle.std.specs.Prelude.{ℕ, ◌≡◌, ◌≤◌, ◌<◌, true, List, Ok}
+use Rattle.std.specs.Prelude.{ℕ, ◌≡◌, ◌+◌, ◌≤◌, ◌<◌, true, List, Some, Ok}
+use Rattle.base_spec.specs.Bases.{before_selectors, left_in}
 use Rattle.log_checker.specs.Verdict.{may_stand}
-use Rattle.clause_spec.specs.Variables.{variable_count}
-use Rattle.proof_judge.specs.Judged.{refuted}
+use Rattle.proof_judge.specs.Judged.{clause_said, refuted}
 use Rattle.proof_log.specs.declared.head.Head.{Head}
 use Rattle.proof_log.specs.declared.head.Head.TheVariants.{Of}
 use Rattle.proof_log.specs.declared.line.Line.TheVariants.{Refute}
@@ -15,7 +15,7 @@ use Rattle.sat_clause.specs.declared.lit.Lit.{Lit}
 use Rattle.sat_clause.specs.Hints.{is_assigned}
 use Rattle.clause_spec.specs.declared.question.BaseKind.{BaseKind}
 use Rattle.clause_spec.specs.declared.question.Question.{Question}
-use Rattle.plan_exclusion.specs.Failures.{IsRefutedBy, clause_of_evidence}
+use Rattle.plan_exclusion.specs.Failures.{IsRefutedBy}
 
 -- what is asked of a design, for plans of n steps, by a base
 abbrev pub question_of : BaseKind → Station → ℕ → Question
@@ -25,14 +25,16 @@ question_of kind d n = record { version = d.version; steps = n; base = kind }
 abbrev pub head_for : BaseKind → Station → ℕ → Head
 head_for kind d n = Of (question_of kind d n)
 
--- the line of a cone or a bound that shows that the plan fails, which may stand in the log, and its clause
-pub record IsExclusion (m : BaseKind) (d : Station) (n : ℕ) (plan : List (List Command))
+-- the line of a cone or a bound that shows that the plan fails, which may stand in the log, and what is left of its
+-- clause in the base
+pub record IsExclusion (kind : BaseKind) (d : Station) (n : ℕ) (plan : List (List Command))
     (line : List ℕ) (clause : List Lit) : Type 0 where
   pub evidence : Evidence
   pub refuted_by : IsRefutedBy d plan evidence
-  pub shows : refuted d n evidence ≡ Ok clause
-  pub clause_is : clause ≡ clause_of_evidence d n evidence
-  pub below : (l : Lit) → is_assigned clause l ≡ true → (1 ≤ l.var) × (l.var < variable_count d (routes_of d) n)
-  pub stands : may_stand m evidence ≡ true
+  pub shows : refuted kind d n evidence ≡ Ok clause
+  pub left : left_in kind d (routes_of d) n (clause_said d n evidence) ≡ Some clause
+  pub below : (l : Lit) → is_assigned clause l ≡ true
+      → (1 ≤ l.var) × (l.var < before_selectors kind d (routes_of d) n + n)
+  pub stands : may_stand kind evidence ≡ true
   pub written : keeps_grammar (Refute evidence) ≡ true
   pub line_is : line ≡ text_of_line (Refute evidence)

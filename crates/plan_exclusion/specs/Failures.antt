@@ -1,10 +1,9 @@
 -- Plans that fail, and what shows that they do.
-use Rattle.std.specs.Prelude.{ℕ, ◌≡◌, Bool, true, List}
+use Rattle.std.specs.Prelude.{ℕ, ◌≡◌, Bool, true, List, [], ◌∷◌, Option, None, Some}
 use Rattle.std.specs.List.{list_all}
-use Rattle.bound_clause.specs.Numbered.{numbered_bound}
-use Rattle.cone_clause.specs.Numbered.{numbered_clause}
-use Rattle.clause_spec.specs.Clauses.{base_clauses}
-use Rattle.clause_spec.specs.Models.{decoded}
+use Rattle.base_spec.specs.Bases.{clauses_of, decoded_of, left_in}
+use Rattle.clause_spec.specs.declared.question.BaseKind.{BaseKind}
+use Rattle.proof_judge.specs.Judged.{clause_said}
 use Rattle.rail_base.specs.declared.history.TrainHistory.{TrainHistory}
 use Rattle.rail_base.specs.declared.history.Verdict.TheVariants.{Failed}
 use Rattle.rail_base.specs.declared.plan.Command.{Command}
@@ -26,10 +25,11 @@ use Rattle.sat_core.specs.Models.{value_in}
 abbrev pub FailsSo : Station → List (List Command) → List TrainHistory → ℕ → Violation → Type 0
 FailsSo d plan history tick violation = verdict_of d (routes_of d) plan tick ≡ Failed history tick violation
 
--- values of the variables of n steps give the plan
-pub record AreValuesOfPlan (d : Station) (n : ℕ) (values : List Bool) (plan : List (List Command)) : Type 0 where
-  pub holds : list_all (clause_holds (value_in values)) (base_clauses d (routes_of d) n) ≡ true
-  pub decoded : plan ≡ decoded d (routes_of d) n (value_in values)
+-- values of a base's variables, for n steps, give the plan
+pub record AreValuesOfPlan (kind : BaseKind) (d : Station) (n : ℕ) (values : List Bool) (plan : List (List Command))
+    : Type 0 where
+  pub holds : list_all (clause_holds (value_in values)) (clauses_of kind d (routes_of d) n) ≡ true
+  pub decoded : plan ≡ decoded_of kind d (routes_of d) n (value_in values)
 
 module _ (d : Station) where
   -- the plan fails
@@ -49,7 +49,11 @@ module _ (d : Station) where
   abbrev pub IsRefutedBy : List (List Command) → Evidence → Type 0
   IsRefutedBy plan e = (f : Fails plan) × Shows plan f e
 
--- the clause of a cone or a bound, over the variables of n steps
-abbrev pub clause_of_evidence : Station → ℕ → Evidence → List Lit
-clause_of_evidence d n (evidence.Cone cone) = numbered_clause d (routes_of d) n cone
-clause_of_evidence d n (evidence.Bound bound) = numbered_bound d (routes_of d) n bound
+-- the clause that is left, if one is
+abbrev pub listed : Option (List Lit) → List (List Lit)
+listed None = []
+listed (Some clause) = clause ∷ []
+
+-- what is left in a base of n steps of the clause of a cone or a bound
+abbrev pub clauses_of_evidence : BaseKind → Station → ℕ → Evidence → List (List Lit)
+clauses_of_evidence kind d n e = listed (left_in kind d (routes_of d) n (clause_said d n e))

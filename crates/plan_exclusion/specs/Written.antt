@@ -1,5 +1,6 @@
 -- What excludes a plan, as the code has it.
-use Rattle.std.specs.Prelude.{◌≡◌, ℕ, false, List, Some, Ok}
+use Rattle.std.specs.Prelude.{◌≡◌, ℕ, true, false, List, Some, Ok}
+use Rattle.log_checker.specs.Verdict.{may_stand}
 use Rattle.proof_judge.specs.Judged.{refuted}
 use Rattle.proof_log.specs.declared.line.Line.TheVariants.{Refute}
 use Rattle.proof_log.specs.Lines.{line_in_bytes}
@@ -12,18 +13,21 @@ use Rattle.sat_clause.specs.Clauses.{clause_holds}
 use Rattle.sat_core.specs.Models.{value_in}
 use Rattle.plan_exclusion.specs.declared.exclusion.Exclusion.{Exclusion}
 use Rattle.plan_exclusion.specs.declared.exclusion.FailedPlan.{FailedPlan}
-use Rattle.clause_spec.specs.declared.question.BaseKind.{BaseKind}
 use Rattle.plan_exclusion.specs.Exclusions.{IsExclusion}
 
 -- it excludes the plan that fails
-abbrev pub IsExclusionOf : FailedPlan → BaseKind → Exclusion → Type 0
-IsExclusionOf f m e =
-    IsExclusion m f.contention.interlocking.now.design.station f.steps.count f.plan.now.steps
+abbrev pub IsExclusionOf : FailedPlan → Exclusion → Type 0
+IsExclusionOf f e =
+    IsExclusion f.kind f.contention.interlocking.now.design.station f.steps.count f.plan.now.steps
     e.line.items e.clause.items
 
--- the evidence shows the clause, which is false by the values that give the plan
+-- bounds may stand in the log
+abbrev pub TakesBounds : FailedPlan → Type 0
+TakesBounds f = (b : Bound) → may_stand f.kind (evidence.Bound b) ≡ true
+
+-- the evidence shows what is left of its clause, which is false by the values that give the plan
 abbrev pub DeniedBy : FailedPlan → Evidence → List Lit → Type 0
-DeniedBy f e clause = (refuted f.contention.interlocking.now.design.station f.steps.count e ≡ Ok clause)
+DeniedBy f e clause = (refuted f.kind f.contention.interlocking.now.design.station f.steps.count e ≡ Ok clause)
     × (clause_holds (value_in f.values.now) clause ≡ false)
 
 -- it shows no clause that is false by those values

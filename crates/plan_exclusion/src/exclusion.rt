@@ -9,14 +9,14 @@ ghost use Rattle.slice_spec.specs.Holders.{GivesEach};
 ghost use Rattle.rail_spec.specs.Feasible.{IsRunnable};
 ghost use Rattle.rail_spec.specs.Track.{routes_of};
 ghost use Rattle.plan_exclusion.specs.Failures.{FailsSo, AreValuesOfPlan};
-ghost use Rattle.clause_spec.specs.declared.question.BaseKind.TheVariants as by;
+ghost use Rattle.live_clause_spec.specs.Variables.{live_commands};
+ghost use Rattle.plan_encoding.specs.Bases.{speaks_of};
 
 use crate::denied::is_denied;
 use bound_finder::Finder;
 use bound_spec::{Bound, Evidence};
 use clause_spec::BaseKind;
-use cone_clause::clause_of;
-use cone_form::Contention;
+use cone_clause::{Contention, clause_of};
 use interlocking::Steps;
 use log_checker::{RefuteFault, Refuter};
 use proof_judge::ByDesign;
@@ -39,6 +39,8 @@ pub struct Exclusion {
 #[derive(Clone, Copy)]
 pub struct FailedPlan<'a, 'b> {
     pub contention: Contention<'a>,
+    /// The base whose commands these are, and whose values gave the plan.
+    pub kind: BaseKind,
     /// It has no more steps.
     pub steps: Steps,
     pub plan: &'b Plan,
@@ -52,13 +54,15 @@ pub struct FailedPlan<'a, 'b> {
         IsRunnable d (routes_of d) steps.count plan.now.steps },
     pub ghost each: { GivesEach contention.interlocking.now.design.station plan.now.steps },
     pub ghost fails: { FailsSo contention.interlocking.now.design.station plan.now.steps history.now tick violation },
-    pub ghost decoded: { AreValuesOfPlan contention.interlocking.now.design.station steps.count values.now
+    pub ghost decoded: { AreValuesOfPlan kind contention.interlocking.now.design.station steps.count values.now
         plan.now.steps },
+    pub ghost speaks: { let i = contention.interlocking.now in contention.pairs.now.commands
+        ≡ live_commands (speaks_of kind i.design.station i.routes) i.design.station i.routes },
 }
 
 impl FailedPlan<'_, '_> {
     ghost use Rattle.plan_exclusion.specs.Written.{DeniedBy, DeniesNothing, ExcludesNothing, IsExclusionOf};
-    ghost use Rattle.plan_exclusion.specs.Written.{IsNoBoundLine};
+    ghost use Rattle.plan_exclusion.specs.Written.{IsNoBoundLine, TakesBounds};
 
     /// What excludes the plan: the cone of its failure; but where trains are sorted one of the bounds that are found, or
     /// the cone where none of them excludes it.
@@ -66,19 +70,14 @@ impl FailedPlan<'_, '_> {
     /// # Errors
     ///
     /// Want of memory alone.
-    pub fn exclusion(
-        &self,
-        alloc: Global,
-        kind: BaseKind,
-        finder: &mut Finder,
-    ) -> Result<Exclusion, AllocError>
-        ensures { IfOk result (IsExclusionOf self.now kind) }
+    pub fn exclusion(&self, alloc: Global, finder: &mut Finder) -> Result<Exclusion, AllocError>
+        ensures { IfOk result (IsExclusionOf self.now) }
     {
-        match kind {
-            BaseKind::Plain | BaseKind::Normal => self.by_cone(alloc, kind),
-            BaseKind::Sorted => match self.by_bounds(alloc, finder)? {
+        match self.kind {
+            BaseKind::Plain | BaseKind::Normal => self.by_cone(alloc),
+            BaseKind::Sorted | BaseKind::Live => match self.by_bounds(alloc, finder)? {
                 Some(exclusion) => Ok(exclusion),
-                None => self.by_cone(alloc, kind),
+                None => self.by_cone(alloc),
             },
         }
     }
@@ -86,17 +85,19 @@ impl FailedPlan<'_, '_> {
     /// What the design says of evidence.
     fn by_design(&self) -> ByDesign<'_>
         ensures design { result.contention ≡ self.now.contention }
+        ensures kind { result.kind ≡ self.now.kind }
         ensures steps { result.steps ≡ self.now.steps }
     {
         ByDesign {
             contention: self.contention,
+            kind: self.kind,
             steps: self.steps,
         }
     }
 
     /// The exclusion by the cone of the failure.
-    fn by_cone(&self, alloc: Global, kind: BaseKind) -> Result<Exclusion, AllocError>
-        ensures { IfOk result (IsExclusionOf self.now kind) }
+    fn by_cone(&self, alloc: Global) -> Result<Exclusion, AllocError>
+        ensures { IfOk result (IsExclusionOf self.now) }
     {
         let cone = slice(
             alloc,
@@ -106,7 +107,9 @@ impl FailedPlan<'_, '_> {
             self.tick,
             self.violation,
         )?;
-        let clause = clause_of(alloc, &self.contention, self.steps, &cone)?;
+        let Some(clause) = clause_of(alloc, &self.contention, self.steps, &cone)? else {
+            unreachable!()
+        };
         let evidence = Evidence::Cone(cone);
         let line = write_line(alloc, &Line::Refute { evidence })?;
         Ok(Exclusion { line, clause })
@@ -143,8 +146,8 @@ impl FailedPlan<'_, '_> {
     /// The exclusion by a bound, as its line is read back: none where the bound is not valid, or excludes other plans
     /// alone.
     fn by_bound(&self, alloc: Global, bound: Bound) -> Result<Option<Exclusion>, AllocError>
-        ensures { IfOk result (λ e. MatchOption e (ExcludesNothing self.now bound)
-            (IsExclusionOf self.now by.Sorted)) }
+        requires { TakesBounds self.now }
+        ensures { IfOk result (λ e. MatchOption e (ExcludesNothing self.now bound) (IsExclusionOf self.now)) }
     {
         let evidence = Evidence::Bound(bound);
         let line = write_line(alloc, &Line::Refute { evidence })?;
@@ -159,9 +162,11 @@ impl FailedPlan<'_, '_> {
 
     /// The exclusion by the first of the bounds that are found that is one, if any is.
     fn by_bounds(&self, alloc: Global, finder: &mut Finder) -> Result<Option<Exclusion>, AllocError>
-        ensures { IfOk result (λ e. ForSome e (IsExclusionOf self.now by.Sorted)) }
+        requires { TakesBounds self.now }
+        ensures { IfOk result (λ e. ForSome e (IsExclusionOf self.now)) }
     {
-        let bounds = finder.bounds(&self.contention, self.plan, self.history, self.violation)?;
+        let interlocking = self.contention.interlocking;
+        let bounds = finder.bounds(interlocking, self.plan, self.history, self.violation)?;
         for bound in bounds {
             if let Some(exclusion) = self.by_bound(alloc, bound)? {
                 return Ok(Some(exclusion));

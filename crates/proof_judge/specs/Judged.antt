@@ -1,26 +1,31 @@
 -- What a proof file shows of a design.
-use Rattle.std.specs.Prelude.{◌≡◌, ℕ, ◌≤◌, ◌==◌, true, not, ◌&&◌, if◌then◌else◌, List, map, Option, Some, None}
+use Rattle.std.specs.Prelude.{◌≡◌, ℕ, ◌≤◌, ◌==◌, true, not, ◌&&◌, if◌then◌else◌, List, map, option_map, Option, Some, None}
 use Rattle.std.specs.Prelude.{is_some, Result, Ok, Err}
 use Rattle.rail_text.specs.Pieces.{pieces}
-use Rattle.base_spec.specs.Bases.{clauses_of, variables_of}
-use Rattle.bound_clause.specs.Numbered.{numbered_bound}
-use Rattle.cone_clause.specs.Numbered.{numbered_clause}
+use Rattle.base_spec.specs.Bases.{clauses_of, left_in, variables_of}
+use Rattle.bound_clause.specs.Numbered.{base_clause_of_bound}
+use Rattle.cone_clause.specs.Numbered.{base_clause}
 use Rattle.log_checker.specs.declared.check_result.CheckResult.{CheckResult}
 use Rattle.log_checker.specs.declared.check_result.CheckResult.TheVariants.{Yes, No}
 use Rattle.log_checker.specs.declared.check_result.Reason.TheVariants.{HeadDiffers, BaseTooLarge}
 use Rattle.log_checker.specs.Verdict.{head_in, log_verdict}
-use Rattle.clause_spec.specs.Clauses.{past_limit}
+use Rattle.clause_spec.specs.Clauses.{Clause, past_limit}
+use Rattle.clause_spec.specs.declared.question.BaseKind.{BaseKind}
+use Rattle.clause_spec.specs.declared.question.BaseKind.TheVariants.{Plain, Sorted, Normal, Live}
 use Rattle.clause_spec.specs.declared.question.VariableCounts.{VariableCounts}
 use Rattle.proof_log.specs.declared.head.Head.{Head}
 use Rattle.proof_log.specs.declared.head.Head.TheVariants.{Unnamed, Of}
 use Rattle.proof_log.specs.Heads.{base_of}
+use Rattle.rail_base.specs.declared.route.Route.{Route}
 use Rattle.rail_base.specs.declared.station.Station.{Station}
 use Rattle.rail_base.specs.Admitted.{IsAdmitted}
 use Rattle.bound_spec.specs.declared.Evidence.{Evidence}
 use Rattle.bound_spec.specs.declared.Evidence.TheVariants as evidence
+use Rattle.bound_spec.specs.declared.BoundFault.TheVariants.{BoundNotInDesign}
 use Rattle.bound_spec.specs.declared.EvidenceFault.{EvidenceFault}
 use Rattle.bound_spec.specs.declared.EvidenceFault.TheVariants as of
 use Rattle.bound_spec.specs.Validity as bound
+use Rattle.cone_spec.specs.declared.ConeFault.TheVariants.{PathNotInDesign}
 use Rattle.cone_spec.specs.Validity as cone
 use Rattle.rail_spec.specs.Feasible.{IsInfeasible}
 use Rattle.rail_spec.specs.Track.{routes_of}
@@ -31,15 +36,30 @@ use Rattle.sat_clause.specs.Clauses.{Store}
 abbrev pub all_live : List (List Lit) → Store
 all_live clauses = map (λ c. (c, true)) clauses
 
--- the clause, or why it is not shown
-abbrev pub unless : {F : Type 0} → (F → EvidenceFault) → Option F → List Lit → Result (List Lit) EvidenceFault
-unless of None clause = Ok clause
-unless of (Some fault) clause = Err (of fault)
+-- what a cone or a bound says, as a clause over the variables of n steps
+abbrev pub clause_said : Station → ℕ → Evidence → Clause
+clause_said d n (evidence.Cone k) = base_clause d (routes_of d) n k
+clause_said d n (evidence.Bound b) = base_clause_of_bound d (routes_of d) n b
 
--- the clause of a valid cone or bound, over the variables of n steps, or why it is not valid
-abbrev pub refuted : Station → ℕ → Evidence → Result (List Lit) EvidenceFault
-refuted d n (evidence.Cone k) = unless of.Cone (cone.fault_of d (routes_of d) k) (numbered_clause d (routes_of d) n k)
-refuted d n (evidence.Bound b) = unless of.Bound (bound.fault_of d (routes_of d) b) (numbered_bound d (routes_of d) n b)
+-- what is left of the clause, or the first reason against it: where nothing is left, that the design hasn't what it names
+abbrev pub shown_by : Option EvidenceFault → EvidenceFault → Option (List Lit) → Result (List Lit) EvidenceFault
+shown_by fault not_there None = Err not_there
+shown_by (Some fault) not_there (Some clause) = Err fault
+shown_by None not_there (Some clause) = Ok clause
+
+-- the first reason against a cone or a bound
+abbrev pub fault_of : Station → Evidence → Option EvidenceFault
+fault_of d (evidence.Cone k) = option_map of.Cone (cone.fault_of d (routes_of d) k)
+fault_of d (evidence.Bound b) = option_map of.Bound (bound.fault_of d (routes_of d) b)
+
+-- that the design, or the base, hasn't what it names
+abbrev pub not_in_design : Evidence → EvidenceFault
+not_in_design (evidence.Cone k) = of.Cone PathNotInDesign
+not_in_design (evidence.Bound b) = of.Bound BoundNotInDesign
+
+-- what is left in a base of n steps of the clause of a valid cone or bound, or why it is not shown
+abbrev pub refuted : BaseKind → Station → ℕ → Evidence → Result (List Lit) EvidenceFault
+refuted kind d n e = shown_by (fault_of d e) (not_in_design e) (left_in kind d (routes_of d) n (clause_said d n e))
 
 -- the clauses that a head names
 abbrev pub clauses_under : Head → Station → ℕ → List (List Lit)
@@ -49,10 +69,10 @@ clauses_under head d n = clauses_of (base_of head) d (routes_of d) n
 abbrev pub variables_under : Head → Station → ℕ → VariableCounts
 variables_under head d n = variables_of (base_of head) d (routes_of d) n
 
--- what the bytes show of the clauses that a head names, and of those of valid cones and bounds
+-- what the bytes show of the clauses that a head names, and of what is left of those of valid cones and bounds
 abbrev pub judged_under : Head → Station → ℕ → List ℕ → CheckResult
 judged_under head d n bytes =
-    log_verdict head (refuted d n) (variables_under head d n) (all_live (clauses_under head d n)) bytes
+    log_verdict head (refuted (base_of head) d n) (variables_under head d n) (all_live (clauses_under head d n)) bytes
 
 -- the same, where a head that names a question names this version of designs and so many steps, and its clauses are not too many
 abbrev pub judged_by : Station → ℕ → List ℕ → Option Head → CheckResult
@@ -62,6 +82,25 @@ judged_by d n bytes (Some (Of q)) =
     else judged_under (Of q) d n bytes
 judged_by d n bytes (Some Unnamed) = judged_under Unnamed d n bytes
 judged_by d n bytes None = judged_under Unnamed d n bytes
+
+-- ---- which clauses come first
+
+-- how many literals the plain clauses have up to the first that is too much, where they are asked of before those of a
+-- base: not before those of live commands
+abbrev pub past_first : BaseKind → Station → List Route → ℕ → Option ℕ
+past_first Plain d routes n = past_limit 16000000 0 (clauses_of Plain d routes n)
+past_first Sorted d routes n = past_limit 16000000 0 (clauses_of Plain d routes n)
+past_first Normal d routes n = past_limit 16000000 0 (clauses_of Plain d routes n)
+past_first Live d routes n = None
+
+-- the base that a file speaks of by its head, if it has one
+abbrev pub base_named : Option Head → BaseKind
+base_named None = Plain
+base_named (Some head) = base_of head
+
+-- the same for the base that a file names
+abbrev pub past_plain : Station → ℕ → List ℕ → Option ℕ
+past_plain d n bytes = past_first (base_named (head_in (pieces bytes))) d (routes_of d) n
 
 -- what the bytes show
 abbrev pub judged : Station → ℕ → List ℕ → CheckResult

@@ -6,6 +6,6 @@ use Rattle.sat_clause.specs.declared.lit.Lit.{Lit}
 use Rattle.proof_judge.specs.declared.evidence.ByDesign.{ByDesign}
 use Rattle.proof_judge.specs.Judged.{refuted}
 
--- the clause that a cone or a bound shows of the design, or why it shows none
+-- what is left of the clause that a cone or a bound shows of the design, or why it shows none
 abbrev pub shows : ByDesign → Evidence → Result (List Lit) EvidenceFault
-shows c = refuted c.contention.interlocking.now.design.station c.steps.count
+shows c = refuted c.kind c.contention.interlocking.now.design.station c.steps.count

@@ -3,31 +3,44 @@
 ghost use Rattle.std.specs.Prelude.{◌≡◌, IfOk, Ok, Err};
 ghost use Rattle.bound_spec.specs.declared.Evidence.TheVariants as evidence;
 ghost use Rattle.bound_spec.specs.declared.EvidenceFault.{EvidenceFault};
+ghost use Rattle.live_clause_spec.specs.Variables.{live_commands};
 ghost use Rattle.log_checker.specs.declared.refuter.RefuteFault.TheVariants.{NotRefuted};
-ghost use Rattle.proof_judge.specs.Judged.{refuted};
+ghost use Rattle.plan_encoding.specs.Bases.{speaks_of};
 
 use bound_clause::clause_of as clause_of_bound;
 use bound_design::{is_covered, names_design};
 use bound_spec::{Bound, BoundFault, Evidence, EvidenceFault};
 use bound_ticks::shows_failure;
-use cone_clause::clause_of as clause_of_cone;
-use cone_form::Contention;
+use clause_spec::BaseKind;
+use cone_clause::{Contention, clause_of as clause_of_cone};
+use cone_form::is_in_design;
 use cone_run::fault_of;
-use cone_spec::Cone;
+use cone_spec::{Cone, ConeFault};
 use interlocking::Steps;
 use log_checker::{RefuteFault, Refuter};
 use sat_clause::Lit;
 use std::alloc::Global;
 
-/// Says of cones and bounds over a design which clause they show, for plans of so many steps.
+/// Says of cones and bounds over a design what is left of the clause that they show, for plans of so many steps.
 #[derive(Clone, Copy)]
 pub struct ByDesign<'a> {
     pub contention: Contention<'a>,
+    /// The base whose commands these are.
+    pub kind: BaseKind,
     pub steps: Steps,
+    pub ghost speaks: { let i = contention.interlocking.now in contention.pairs.now.commands
+        ≡ live_commands (speaks_of kind i.design.station i.routes) i.design.station i.routes },
+}
+
+/// Why a cone gives no clause.
+fn of_cone(fault: ConeFault) -> RefuteFault
+    ensures { result ≡ NotRefuted (EvidenceFault.Cone fault) }
+{
+    RefuteFault::NotRefuted(EvidenceFault::Cone(fault))
 }
 
 /// Why a bound gives no clause.
-fn by_fault(fault: BoundFault) -> RefuteFault
+fn of_bound(fault: BoundFault) -> RefuteFault
     ensures { result ≡ NotRefuted (EvidenceFault.Bound fault) }
 {
     RefuteFault::NotRefuted(EvidenceFault::Bound(fault))
@@ -36,35 +49,43 @@ fn by_fault(fault: BoundFault) -> RefuteFault
 impl ByDesign<'_> {
     ghost use Rattle.proof_judge.specs.Shows.{shows};
 
-    /// The clause that a cone shows.
+    /// What is left of the clause that a cone shows.
     fn cone_clause(&self, alloc: Global, cone: &Cone) -> Result<Vec<Lit>, RefuteFault>
         ensures ok { IfOk result (λ clause. shows self.now (evidence.Cone cone.now) ≡ Ok clause.items) }
         ensures fault { (fault : EvidenceFault) → result ≡ Err (NotRefuted fault)
             → shows self.now (evidence.Cone cone.now) ≡ Err fault }
     {
-        if let Some(fault) = fault_of(alloc, &self.contention, cone)? {
-            return Err(RefuteFault::NotRefuted(EvidenceFault::Cone(fault)));
+        let interlocking = self.contention.interlocking;
+        if !is_in_design(alloc, interlocking, cone)? {
+            return Err(of_cone(ConeFault::PathNotInDesign));
         }
-        Ok(clause_of_cone(alloc, &self.contention, self.steps, cone)?)
+        let Some(clause) = clause_of_cone(alloc, &self.contention, self.steps, cone)? else {
+            return Err(of_cone(ConeFault::PathNotInDesign));
+        };
+        match fault_of(alloc, interlocking, cone)? {
+            Some(fault) => Err(of_cone(fault)),
+            None => Ok(clause),
+        }
     }
 
-    /// The clause that a bound shows.
+    /// What is left of the clause that a bound shows.
     fn bound_clause(&self, alloc: Global, bound: &Bound) -> Result<Vec<Lit>, RefuteFault>
         ensures ok { IfOk result (λ clause. shows self.now (evidence.Bound bound.now) ≡ Ok clause.items) }
         ensures fault { (fault : EvidenceFault) → result ≡ Err (NotRefuted fault)
             → shows self.now (evidence.Bound bound.now) ≡ Err fault }
     {
-        if !names_design(alloc, &self.contention, bound)? {
-            return Err(by_fault(BoundFault::BoundNotInDesign));
+        let interlocking = self.contention.interlocking;
+        if !names_design(alloc, interlocking, bound)? {
+            return Err(of_bound(BoundFault::BoundNotInDesign));
         }
         let Some(clause) = clause_of_bound(alloc, &self.contention, self.steps, bound)? else {
-            return Err(by_fault(BoundFault::BoundNotInDesign));
+            return Err(of_bound(BoundFault::BoundNotInDesign));
         };
-        if !is_covered(alloc, self.contention.interlocking, bound)? {
-            return Err(by_fault(BoundFault::PlaceNotCovered));
+        if !is_covered(alloc, interlocking, bound)? {
+            return Err(of_bound(BoundFault::PlaceNotCovered));
         }
-        if !shows_failure(alloc, &self.contention, bound)? {
-            return Err(by_fault(BoundFault::BoundNotShown));
+        if !shows_failure(alloc, interlocking, bound)? {
+            return Err(of_bound(BoundFault::BoundNotShown));
         }
         Ok(clause)
     }

@@ -5,7 +5,7 @@ use Rattle.std.specs.Str.{bytes_eq}
 use Rattle.std.proofs.lemmas.List.Splits.{join_with_byte-slice_split}
 use Rattle.rail_text.specs.Laws.{NumbersReadBack}
 use Rattle.clause_spec.specs.declared.question.BaseKind.{BaseKind}
-use Rattle.clause_spec.specs.declared.question.BaseKind.TheVariants.{Plain, Sorted, Normal}
+use Rattle.clause_spec.specs.declared.question.BaseKind.TheVariants.{Plain, Sorted, Normal, Live}
 use Rattle.proof_log.specs.declared.head.Head.{Head}
 use Rattle.proof_log.specs.declared.head.Head.TheVariants.{Unnamed, Of}
 use Rattle.proof_log.specs.Words.{line_words}
@@ -21,6 +21,7 @@ split-question : (base : BaseKind) (version steps : ℕ) → keeps_head (asked_b
 split-question Plain version steps keeps = split-back (codes "rcvlog") (codes "2" ∷ decimal version ∷ decimal steps ∷ []) refl (plain_numbers-spaceless version steps keeps)
 split-question Sorted version steps keeps = split-back (codes "rcvlog") (codes "4" ∷ decimal version ∷ decimal steps ∷ []) refl (plain_numbers-spaceless version steps keeps)
 split-question Normal version steps keeps = split-back (codes "rcvlog") (codes "3" ∷ decimal version ∷ decimal steps ∷ []) refl (plain_numbers-spaceless version steps keeps)
+split-question Live version steps keeps = split-back (codes "rcvlog") (codes "5" ∷ decimal version ∷ decimal steps ∷ []) refl (plain_numbers-spaceless version steps keeps)
 
 split-head : (h : Head) → keeps_head h ≡ true → line_words (head_text h) ≡ head_words h
 split-head Unnamed keeps = split-back (codes "rcvlog") (codes "1" ∷ []) refl refl
@@ -30,6 +31,7 @@ question-back : NumbersReadBack → (base : BaseKind) (version steps : ℕ) → 
 question-back back Plain version steps keeps = rw (plain_numbers-read back (version, steps) [] keeps) refl
 question-back back Sorted version steps keeps = rw (plain_numbers-read back (version, steps) [] keeps) refl
 question-back back Normal version steps keeps = rw (plain_numbers-read back (version, steps) [] keeps) refl
+question-back back Live version steps keeps = rw (plain_numbers-read back (version, steps) [] keeps) refl
 
 head-back : NumbersReadBack → (h : Head) → keeps_head h ≡ true → head_of_words (head_words h) ≡ Some h
 head-back back Unnamed keeps = refl
@@ -53,7 +55,9 @@ base-told : (word : List ℕ) (base : BaseKind) → base_of_word word ≡ Some b
 base-told word base e =
     choose word (codes "2") (Some Plain) _ base (λ n is. n ∙ ap base_word (some-same is))
     (choose word (codes "4") (Some Sorted) _ base (λ n is. n ∙ ap base_word (some-same is))
-    (choose word (codes "3") (Some Normal) None base (λ n is. n ∙ ap base_word (some-same is)) (λ none. absurd (cc)) (bytes_eq word (codes "3")) refl)
+    (choose word (codes "3") (Some Normal) _ base (λ n is. n ∙ ap base_word (some-same is))
+    (choose word (codes "5") (Some Live) None base (λ n is. n ∙ ap base_word (some-same is)) (λ none. absurd (cc)) (bytes_eq word (codes "5")) refl)
+    (bytes_eq word (codes "3")) refl)
     (bytes_eq word (codes "4")) refl)
     (bytes_eq word (codes "2")) refl e
   where

@@ -3,7 +3,7 @@ use Rattle.std.specs.Prelude.{ℕ, Bool, true, ◌&&◌, List, [], ◌∷◌, Op
 use Rattle.std.specs.List.{join_with_byte}
 use Rattle.std.specs.Str.{bytes_eq}
 use Rattle.clause_spec.specs.declared.question.BaseKind.{BaseKind}
-use Rattle.clause_spec.specs.declared.question.BaseKind.TheVariants.{Plain, Sorted, Normal}
+use Rattle.clause_spec.specs.declared.question.BaseKind.TheVariants.{Plain, Sorted, Normal, Live}
 use Rattle.proof_log.specs.declared.head.Head.{Head}
 use Rattle.proof_log.specs.declared.head.Head.TheVariants.{Unnamed, Of}
 use Rattle.proof_log.specs.Words.{line_words, is_plain}
@@ -15,6 +15,7 @@ abbrev pub base_word : BaseKind → List ℕ
 base_word Plain = codes "2"
 base_word Sorted = codes "4"
 base_word Normal = codes "3"
+base_word Live = codes "5"
 
 -- `rcvlog` and the version of the file; for a question also the version of the design, and the number of steps
 abbrev pub head_words : Head → List (List ℕ)
@@ -41,6 +42,7 @@ base_of_word word =
     if bytes_eq word (codes "2") then Some Plain
     else if bytes_eq word (codes "4") then Some Sorted
     else if bytes_eq word (codes "3") then Some Normal
+    else if bytes_eq word (codes "5") then Some Live
     else None
 
 -- the head of a question by a base, by the two numbers

@@ -17,7 +17,8 @@ use std::alloc::{AllocError, Global};
 pub enum Head {
     /// They are those that each plan makes true.
     Unnamed,
-    /// They are those of this question. Bounds may stand in the file where it is asked by sorted trains.
+    /// They are those of this question. Bounds may stand in the file where it is asked by sorted trains, or by live
+    /// commands.
     Of(Question),
 }
 
@@ -73,6 +74,13 @@ pub fn write_head(alloc: Global, head: Head) -> Result<Vec<u8>, AllocError>
                 base: BaseKind::Normal,
             },
         ) => write_named(alloc, b"rcvlog 3", version, steps),
+        Head::Of(
+            Question {
+                version,
+                steps,
+                base: BaseKind::Live,
+            },
+        ) => write_named(alloc, b"rcvlog 5", version, steps),
     }
 }
 
@@ -97,6 +105,8 @@ fn base_of_word(word: &[u8]) -> Option<BaseKind>
         Some(BaseKind::Sorted)
     } else if word == b"3".as_slice() {
         Some(BaseKind::Normal)
+    } else if word == b"5".as_slice() {
+        Some(BaseKind::Live)
     } else {
         None
     }

@@ -1,13 +1,12 @@
 -- Answers to a check, for some bytes of its files.
 use Rattle.std.proofs.Common.{◌≡◌, ℕ, List, [], Result, Ok, Err, Vec, Global, refl, sym, subst}
-use Rattle.clause_spec.specs.declared.question.BaseKind.TheVariants.{Plain}
 use Rattle.rail_base.specs.declared.station.Station.{Station}
 use Rattle.cli_shell.specs.declared.input.InputFile.TheVariants as file
 use Rattle.cli_shell.specs.declared.reply.Reply.{Reply}
 use Rattle.cli_shell.specs.declared.ending.Ending.{Ending}
 use Rattle.cli_shell.specs.declared.ending.Ending.TheVariants as ending
 use Rattle.cli_shell.specs.Answers.{ReplySeen, within_limit, design_in, unless_refused}
-use Rattle.proof_shell.specs.Answers.{with_clauses, checked_against, with_proof, check_reply}
+use Rattle.proof_shell.specs.Answers.{for_file, checked_against, with_proof, check_reply}
 use Rattle.cli_shell.specs.Replies.{ReadsOrEnds, Replies}
 use Rattle.cli_shell.proofs.Deciding.{answered_next}
 use Rattle.cli_shell.proofs.AnyShelf.{ends_so, with_text, with_design}
@@ -37,15 +36,16 @@ module _ (r : Result Reply Ending) (n : ℕ) (d : Station) where
   abbrev ProvenSo : Type 0
   ProvenSo = (bytes : List ℕ) × Replies r (with_proof n d bytes)
 
-  -- what is left where the clauses are few
-  abbrev with_bytes : List ℕ → ReplySeen
-  with_bytes bytes = unless_refused (within_limit file.Proof bytes) (checked_against d n)
+  -- what is left where the file is not too long
+  abbrev with_text_of : List ℕ → ReplySeen
+  with_text_of text = unless_refused (for_file n d text) (λ same. checked_against d n text)
 
-  pub no_base : {X : Type 0} (view : X → Station) (e : Ending) → r ≡ Err e → ReadsOrEnds view (Err e) (with_clauses Plain n d) → ProvenSo
-  no_base view e is h = ([], ends_so r view e (with_clauses Plain n d) (λ same. with_bytes []) _ is h refl)
+  pub no_proof : (e : Ending) → r ≡ Err e → (bytes : List ℕ) × ReadsOrEnds (λ (v : Vec ℕ Global). v.items) (Err e) (within_limit file.Proof bytes) → ProvenSo
+  no_proof e is h = (h.0, ends_so r (λ (v : Vec ℕ Global). v.items) e _ with_text_of _ is h.1 refl)
 
-  pub no_proof : (e : Ending) → r ≡ Err e → with_clauses Plain n d ≡ Ok d → (bytes : List ℕ) × ReadsOrEnds (λ (v : Vec ℕ Global). v.items) (Err e) (within_limit file.Proof bytes) → ProvenSo
-  no_proof e is few h = (h.0, ends_so r (λ (v : Vec ℕ Global). v.items) e _ (checked_against d n) _ is h.1 (answered_next (with_clauses Plain n d) d (λ same. with_bytes h.0) few))
+  pub no_base : {X : Type 0} (view : X → Station) (e : Ending) → r ≡ Err e → (text : List ℕ) → (bytes : List ℕ) × (within_limit file.Proof bytes ≡ Ok text) → ReadsOrEnds view (Err e) (for_file n d text) → ProvenSo
+  no_base view e is text first h =
+      (first.0, ends_so r view e (for_file n d text) (λ same. checked_against d n text) _ is h (answered_next (within_limit file.Proof first.0) text with_text_of first.1))
 
   pub no_memory : r ≡ Err ending.Memory → ProvenSo
   no_memory is = ([], subst (λ (x : Result Reply Ending). Replies x (with_proof n d [])) (sym is) tt)

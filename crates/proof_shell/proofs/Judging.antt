@@ -5,8 +5,11 @@ use Rattle.log_checker.specs.declared.check_result.CheckResult.{CheckResult}
 use Rattle.log_checker.specs.declared.check_result.CheckResult.TheVariants.{Yes, No}
 use Rattle.clause_spec.specs.Clauses.{base_clauses, past_limit}
 use Rattle.clause_spec.specs.declared.question.BaseKind.{BaseKind}
-use Rattle.clause_spec.specs.declared.question.BaseKind.TheVariants.{Plain, Sorted, Normal}
-use Rattle.proof_judge.specs.Judged.{judged}
+use Rattle.clause_spec.specs.declared.question.BaseKind.TheVariants.{Plain, Sorted, Normal, Live}
+use Rattle.log_checker.specs.Verdict.{head_in}
+use Rattle.proof_judge.specs.Judged.{base_named, judged, past_first, past_plain}
+use Rattle.proof_judge.specs.Outcomes.{IsPast}
+use Rattle.rail_text.specs.Pieces.{pieces}
 use Rattle.proof_judge.proofs.Sound.{yes_infeasible}
 use Rattle.rail_base.specs.Admitted.{IsAdmitted}
 use Rattle.infra_reader.proofs.Reading.{spelled_admitted}
@@ -19,7 +22,7 @@ use Rattle.cli_shell.specs.Statuses.{is_verdict}
 use Rattle.cli_shell.specs.Texts.{too_large_line}
 use Rattle.proof_shell.specs.Texts.{yes_line}
 use Rattle.cli_shell.specs.Answers.{ReplySeen, one_line, within_limit, with_routes, and_then, design_in, unless_refused}
-use Rattle.proof_shell.specs.Answers.{unless_too_large, with_clauses, reply_for, checked_against, with_proof, check_reply}
+use Rattle.proof_shell.specs.Answers.{unless_too_large, with_clauses, for_file, reply_for, checked_against, with_proof, check_reply}
 use Rattle.cli_shell.specs.Replies.{reply_seen}
 use Rattle.cli_shell.specs.declared.reply.Reply.{Reply}
 use Rattle.plan_encoding.specs.Bases.{IsRefused}
@@ -62,13 +65,13 @@ pub checked_shows : (n : ℕ) (design_bytes proof_bytes : List ℕ) (d : Station
 checked_shows n design_bytes proof_bytes d some spells done =
     let one = passed (within_limit file.Design design_bytes) (λ text. unless_refused (design_in text) (λ e. with_proof n e proof_bytes)) (long_refuses file.Design design_bytes) (ap is_verdict done) in
     let two = passed (design_in one.read) (λ e. with_proof n e proof_bytes) (design_refuses (and_then (design_of one.read) with_routes)) one.verdict in
-    let three = passed (with_clauses Plain n two.read) (λ same. unless_refused (within_limit file.Proof proof_bytes) (checked_against two.read n)) (clauses_refuse two.read (past_limit 16000000 0 (base_clauses two.read (routes_of two.read) n))) two.verdict in
-    let four = passed (within_limit file.Proof proof_bytes) (checked_against two.read n) (long_refuses file.Proof proof_bytes) three.verdict in
+    let three = passed (within_limit file.Proof proof_bytes) (λ proof. unless_refused (for_file n two.read proof) (λ same. checked_against two.read n proof)) (long_refuses file.Proof proof_bytes) two.verdict in
+    let four = passed (for_file n two.read three.read) (λ same. checked_against two.read n three.read) (clauses_refuse two.read (past_plain two.read n three.read)) three.verdict in
     let text : design_bytes ≡ one.read = file_is file.Design design_bytes one.read one.is in
     let same : d ≡ two.read = read-same one.read d two.read (ap design_of (sym text) ∙ spells) two.is in
-    let all : check_reply n design_bytes proof_bytes ≡ checked_against two.read n four.read = one.comes ∙ (two.comes ∙ (three.comes ∙ four.comes)) in
+    let all : check_reply n design_bytes proof_bytes ≡ checked_against two.read n three.read = one.comes ∙ (two.comes ∙ (three.comes ∙ four.comes)) in
     let good : IsAdmitted two.read = subst IsAdmitted same (spelled_admitted design_bytes d spells) in
-    let shows = judged_shows n two.read four.read good some (ap (λ (a : ReplySeen). a.status) (sym all) ∙ done) in
+    let shows = judged_shows n two.read three.read good some (ap (λ (a : ReplySeen). a.status) (sym all) ∙ done) in
     record { steps = shows.steps; least = shows.least; within = shows.within; answer = all ∙ shows.answer; none = subst (λ (e : Station). IsInfeasible e shows.steps) (sym same) shows.none }
 
 -- ---- the clauses of the design
@@ -90,18 +93,29 @@ prefix_fits limit sum (c ∷ cs) more h = go (nat_lt limit (sum + length c)) (pr
     go true next h = absurd (cc)
     go false next h = next h
 
--- where the clauses of a search by any base fit, those of a check do
-base_fits : (m : BaseKind) (n : ℕ) (d : Station) → past_limit 16000000 0 (clauses_of m d (routes_of d) n) ≡ None → past_limit 16000000 0 (clauses_of Plain d (routes_of d) n) ≡ None
-base_fits Plain n d h = h
-base_fits Sorted n d h = prefix_fits 16000000 0 (base_clauses d (routes_of d) n) _ h
-base_fits Normal n d h = prefix_fits 16000000 0 (base_clauses d (routes_of d) n) _ h
+-- where the clauses of a search by any base fit, those that are asked of before them do
+first_fits : (m : BaseKind) (n : ℕ) (d : Station) → past_limit 16000000 0 (clauses_of m d (routes_of d) n) ≡ None → past_first m d (routes_of d) n ≡ None
+first_fits Plain n d h = h
+first_fits Sorted n d h = prefix_fits 16000000 0 (base_clauses d (routes_of d) n) _ h
+first_fits Normal n d h = prefix_fits 16000000 0 (base_clauses d (routes_of d) n) _ h
+first_fits Live n d h = refl
 
 not_many : (d : Station) (many : Option ℕ) (e : Station) → unless_too_large d many ≡ Ok e → many ≡ None
 not_many d None e h = refl
 not_many d (Some k) e h = absurd (cc)
 
-pub base_passes : (m : BaseKind) (n : ℕ) (d : Station) → with_clauses m n d ≡ Ok d → with_clauses Plain n d ≡ Ok d
-base_passes m n d h = small_passes Plain n d (base_fits m n d (not_many d (past_limit 16000000 0 (clauses_of m d (routes_of d) n)) d h))
+-- so the clauses are few for a file that names the base of a search
+pub base_passes : (m : BaseKind) (n : ℕ) (d : Station) (text : List ℕ) → base_named (head_in (pieces text)) ≡ m → with_clauses m n d ≡ Ok d → for_file n d text ≡ Ok d
+base_passes m n d text names h =
+    ap (unless_too_large d) (ap (λ k. past_first k d (routes_of d) n) names ∙ first_fits m n d (not_many d (past_limit 16000000 0 (clauses_of m d (routes_of d) n)) d h))
+
+-- where a file was judged its design has few clauses for it
+pub judged_passes : (n : ℕ) (d : Station) (text : List ℕ) → past_plain d n text ≡ None → for_file n d text ≡ Ok d
+judged_passes n d text few = ap (unless_too_large d) few
+
+pub unjudged_so : (n : ℕ) (d : Station) (text : List ℕ) (fault : BaseFault) (k : ℕ) → fault ≡ TooLarge k → IsPast (past_plain d n text) fault → for_file n d text ≡ Err (one_line DesignRefused too_large_line)
+unjudged_so n d text (TooLarge j) k same e = ap (unless_too_large d) e
+unjudged_so n d text Memory k same e = absurd (cc)
 
 pub refused_so : (n : ℕ) (d : Station) (routes : List Route) (fault : BaseFault) (k : ℕ) → routes ≡ routes_of d → fault ≡ TooLarge k → IsRefused Plain d routes n fault → with_clauses Plain n d ≡ Err (one_line DesignRefused too_large_line)
 refused_so n d routes (TooLarge j) k table same e = too_large_refused Plain n d j (ap (λ (r : List Route). past_limit 16000000 0 (base_clauses d r n)) (sym table) ∙ e)
@@ -109,7 +123,7 @@ refused_so n d routes Memory k table same e = absurd (cc)
 
 -- ---- what is said of the proof
 
-pub proof_shown : (n : ℕ) (d : Station) (proof_bytes text : List ℕ) (shown : CheckResult) (reply : Reply) → with_clauses Plain n d ≡ Ok d → within_limit file.Proof proof_bytes ≡ Ok text → shown ≡ judged d n text → reply_seen reply ≡ reply_for shown → with_proof n d proof_bytes ≡ reply_seen reply
-proof_shown n d proof_bytes text shown reply clauses fits is seen =
-    ap (λ q. unless_refused q (λ (same : Station). unless_refused (within_limit file.Proof proof_bytes) (checked_against d n))) clauses
-    ∙ (ap (λ q. unless_refused q (checked_against d n)) fits ∙ (ap reply_for (sym is) ∙ sym seen))
+pub proof_shown : (n : ℕ) (d : Station) (proof_bytes text : List ℕ) (shown : CheckResult) (reply : Reply) → within_limit file.Proof proof_bytes ≡ Ok text → for_file n d text ≡ Ok d → shown ≡ judged d n text → reply_seen reply ≡ reply_for shown → with_proof n d proof_bytes ≡ reply_seen reply
+proof_shown n d proof_bytes text shown reply fits few is seen =
+    ap (λ q. unless_refused q (λ (proof : List ℕ). unless_refused (for_file n d proof) (λ same. checked_against d n proof))) fits
+    ∙ (ap (λ q. unless_refused q (λ (same : Station). checked_against d n text)) few ∙ (ap reply_for (sym is) ∙ sym seen))

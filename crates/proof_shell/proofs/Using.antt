@@ -1,12 +1,13 @@
 -- No refusal of the clauses has the status of usage.
-use Rattle.std.proofs.Common.{◌≡◌, ℕ, Option, Some, None, refl}
+use Rattle.std.proofs.Common.{◌≡◌, ℕ, List, Option, Some, None, refl}
 use Rattle.clause_spec.specs.Clauses.{base_clauses, past_limit}
 use Rattle.clause_spec.specs.declared.question.BaseKind.TheVariants.{Plain}
 use Rattle.rail_base.specs.declared.station.Station.{Station}
 use Rattle.rail_spec.specs.Track.{routes_of}
 use Rattle.cli_shell.specs.declared.status.Status.TheVariants.{Usage, DesignRefused}
 use Rattle.cli_shell.specs.Texts.{too_large_line}
-use Rattle.proof_shell.specs.Answers.{unless_too_large, with_clauses}
+use Rattle.proof_judge.specs.Judged.{past_plain}
+use Rattle.proof_shell.specs.Answers.{for_file, unless_too_large, with_clauses}
 use Rattle.cli_shell.proofs.Using.{IsNoUsage, one_status}
 
 too_large : (d : Station) (many : Option ℕ) → IsNoUsage (unless_too_large d many)
@@ -15,3 +16,6 @@ too_large d (Some k) a e is = let kind : DesignRefused ≡ Usage = one_status (u
 
 pub clauses_are_no_usage : (n : ℕ) (d : Station) → IsNoUsage (with_clauses Plain n d)
 clauses_are_no_usage n d = too_large d (past_limit 16000000 0 (base_clauses d (routes_of d) n))
+
+pub files_are_no_usage : (n : ℕ) (d : Station) (text : List ℕ) → IsNoUsage (for_file n d text)
+files_are_no_usage n d text = too_large d (past_plain d n text)

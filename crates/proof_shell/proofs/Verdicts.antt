@@ -6,7 +6,6 @@ use Rattle.log_checker.specs.declared.check_result.CheckResult.{CheckResult}
 use Rattle.log_checker.specs.declared.check_result.CheckResult.TheVariants.{Yes, No}
 use Rattle.clause_spec.specs.Clauses.{literals, past_limit}
 use Rattle.clause_spec.specs.declared.question.BaseKind.{BaseKind}
-use Rattle.clause_spec.specs.declared.question.BaseKind.TheVariants.{Plain}
 use Rattle.proof_judge.specs.Judged.{judged}
 use Rattle.rail_base.specs.declared.station.Station.{Station}
 use Rattle.base_spec.specs.Bases.{clauses_of}
@@ -14,11 +13,11 @@ use Rattle.rail_spec.specs.Track.{routes_of}
 use Rattle.cli_shell.specs.declared.input.InputFile.TheVariants as file
 use Rattle.cli_shell.specs.Texts.{limit_of}
 use Rattle.cli_shell.specs.Answers.{within_limit, design_in, unless_refused}
-use Rattle.proof_shell.specs.Answers.{with_clauses, reply_for, checked_against, with_proof, check_reply}
+use Rattle.proof_shell.specs.Answers.{with_clauses, for_file, reply_for, checked_against, with_proof, check_reply}
 use Rattle.cli_shell.specs.Verdicts.{IsDesignText, IsVerdict}
-use Rattle.proof_shell.specs.Verdicts.{HasFewClauses}
+use Rattle.proof_shell.specs.Verdicts.{HasFewClauses, HasFewFor}
 use Rattle.cli_shell.proofs.Deciding.{answered_next}
-use Rattle.proof_shell.proofs.Judging.{small_passes}
+use Rattle.proof_shell.proofs.Judging.{judged_passes, small_passes}
 use Rattle.cli_shell.proofs.Refusing as refusing
 use Rattle.cli_shell.proofs.Verdicts.{fits, reads}
 
@@ -35,12 +34,12 @@ pub few_pass : (m : BaseKind) (d : Station) (n : ℕ) → HasFewClauses m d n �
 few_pass m d n few = small_passes m n d (few_fit m d n few)
 
 module _ (bytes : List ℕ) (d : Station) (s : IsDesignText bytes d) where
-  pub checked_so : (n : ℕ) (proof_bytes : List ℕ) → HasFewClauses Plain d n → length proof_bytes ≤ limit_of file.Proof → check_reply n bytes proof_bytes ≡ reply_for (judged d n proof_bytes)
+  pub checked_so : (n : ℕ) (proof_bytes : List ℕ) → HasFewFor d n proof_bytes → length proof_bytes ≤ limit_of file.Proof → check_reply n bytes proof_bytes ≡ reply_for (judged d n proof_bytes)
   checked_so n proof_bytes few short =
       answered_next (within_limit file.Design bytes) bytes (λ text. unless_refused (design_in text) (λ e. with_proof n e proof_bytes)) (fits bytes d s)
       ∙ (answered_next (design_in bytes) d (λ e. with_proof n e proof_bytes) (reads bytes d s)
-      ∙ (answered_next (with_clauses Plain n d) d (λ same. unless_refused (within_limit file.Proof proof_bytes) (checked_against d n)) (few_pass Plain d n few)
-      ∙ answered_next (within_limit file.Proof proof_bytes) proof_bytes (checked_against d n) (refusing.file_fits file.Proof proof_bytes short)))
+      ∙ (answered_next (within_limit file.Proof proof_bytes) proof_bytes (λ text. unless_refused (for_file n d text) (λ same. checked_against d n text)) (refusing.file_fits file.Proof proof_bytes short)
+      ∙ answered_next (for_file n d proof_bytes) d (λ same. checked_against d n proof_bytes) (judged_passes n d proof_bytes few)))
 
 pub told_verdict : (v : CheckResult) → IsVerdict (reply_for v).status
 told_verdict (Yes k) = inl refl

@@ -3,10 +3,9 @@ use Rattle.std.specs.Prelude.{ℕ, List}
 use Rattle.std.specs.Prelude.{Option, None, Some, Result, Ok, Err}
 use Rattle.log_checker.specs.declared.check_result.CheckResult.{CheckResult}
 use Rattle.log_checker.specs.declared.check_result.CheckResult.TheVariants as check_result
-use Rattle.proof_judge.specs.Judged.{judged}
+use Rattle.proof_judge.specs.Judged.{judged, past_plain}
 use Rattle.clause_spec.specs.Clauses.{past_limit}
 use Rattle.clause_spec.specs.declared.question.BaseKind.{BaseKind}
-use Rattle.clause_spec.specs.declared.question.BaseKind.TheVariants.{Plain}
 use Rattle.rail_base.specs.declared.station.Station.{Station}
 use Rattle.rail_spec.specs.Track.{routes_of}
 use Rattle.base_spec.specs.Bases.{clauses_of}
@@ -34,11 +33,16 @@ reply_for (check_result.No line reason) = one_line status.No (no_line line reaso
 abbrev pub checked_against : Station → ℕ → List ℕ → ReplySeen
 checked_against d n bytes = reply_for (judged d n bytes)
 
+-- a design with few clauses for a file: unless its head names the base of live commands, the plain ones are asked of
+abbrev pub for_file : ℕ → Station → List ℕ → Result Station ReplySeen
+for_file n d text = unless_too_large d (past_plain d n text)
+
 -- the answer to a check of a design, for the bytes of the proof
 abbrev pub with_proof : ℕ → Station → List ℕ → ReplySeen
 with_proof n d proof_bytes =
-    unless_refused (with_clauses Plain n d) (λ same.
-    unless_refused (within_limit file.Proof proof_bytes) (checked_against d n))
+    unless_refused (within_limit file.Proof proof_bytes) (λ text.
+    unless_refused (for_file n d text) (λ same.
+    checked_against d n text))
 
 -- the answer to a check, for the bytes of the design and of the proof
 abbrev pub check_reply : ℕ → List ℕ → List ℕ → ReplySeen

@@ -1,7 +1,8 @@
 -- Designs of which the clauses are few.
-use Rattle.std.specs.Prelude.{◌≤◌, ℕ}
+use Rattle.std.specs.Prelude.{◌≡◌, ◌≤◌, ℕ, List, None}
 use Rattle.clause_spec.specs.Clauses.{literals}
 use Rattle.clause_spec.specs.declared.question.BaseKind.{BaseKind}
+use Rattle.proof_judge.specs.Judged.{past_plain}
 use Rattle.rail_base.specs.declared.station.Station.{Station}
 use Rattle.rail_spec.specs.Track.{routes_of}
 use Rattle.base_spec.specs.Bases.{clauses_of}
@@ -9,3 +10,7 @@ use Rattle.base_spec.specs.Bases.{clauses_of}
 -- the clauses that a search by the base for plans of n steps begins with have at most 16,000,000 literals
 abbrev pub HasFewClauses : BaseKind → Station → ℕ → Type 0
 HasFewClauses kind d n = literals (clauses_of kind d (routes_of d) n) ≤ 16000000
+
+-- those that are asked of before a file is judged have no more: no clauses where its head names the base of live commands
+abbrev pub HasFewFor : Station → ℕ → List ℕ → Type 0
+HasFewFor d n text = past_plain d n text ≡ None

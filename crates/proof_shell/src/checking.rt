@@ -7,7 +7,8 @@ ghost use Rattle.rail_outside.specs.Growth.{Rose, GrowsByPrefix};
 ghost use Rattle.clause_spec.specs.declared.question.BaseKind.TheVariants.{Plain};
 ghost use Rattle.plan_encoding.specs.Bases.{IsBaseOf};
 ghost use Rattle.cli_shell.specs.Statuses.{is_verdict};
-ghost use Rattle.proof_shell.specs.Answers.{with_clauses, reply_for, with_proof, check_reply};
+ghost use Rattle.proof_judge.specs.Judged.{judged};
+ghost use Rattle.proof_shell.specs.Answers.{check_reply, for_file, reply_for, with_clauses, with_proof};
 ghost use Rattle.cli_shell.specs.Replies.{RepliesWith, ReadsOrEnds, RefusesFile, OnlyRefuses, Replies};
 
 use crate::texts::{no_line, yes_line};
@@ -78,6 +79,26 @@ pub fn check_reply<S: Shelf>(
     checked_proof(alloc, shelf, &interlocking, steps, proof)
 }
 
+/// What a proof file shows of a design. The ending says that the design has too many clauses for it, or is want of
+/// memory.
+fn shown_of(
+    alloc: Global,
+    interlocking: &Interlocking,
+    steps: Steps,
+    bytes: &[u8],
+) -> Result<CheckResult, Ending>
+    ensures reads { let d = interlocking.now.design.station in
+        ReadsOrEnds (λ _. d) result (for_file steps.count d bytes.now) }
+    ensures refuses { OnlyRefuses result }
+    ensures shown { IfOk result (λ shown. shown ≡ judged interlocking.now.design.station steps.count bytes.now) }
+{
+    match judge(alloc, interlocking, steps, bytes) {
+        Ok(shown) => Ok(shown),
+        Err(BaseFault::TooLarge { .. }) => Err(ending_of(too_large(alloc))),
+        Err(BaseFault::Memory) => Err(Ending::Memory),
+    }
+}
+
 /// The reply to a check of a design, by the name of the proof's file.
 fn checked_proof<S: Shelf>(
     alloc: Global,
@@ -97,9 +118,8 @@ fn checked_proof<S: Shelf>(
     ensures files_stay { S.known_files shelf.new ≡ S.known_files shelf.old }
     ensures asks { GrowsByPrefix (S.asked shelf.old) (S.asked shelf.new) (fetched proof.now ∷ []) }
 {
-    let base = encode(alloc, interlocking, steps)?;
     let bytes = fetch(alloc, shelf, InputFile::Proof, proof)?;
-    let shown = judge(alloc, interlocking, base, bytes.as_slice())?;
+    let shown = shown_of(alloc, interlocking, steps, bytes.as_slice())?;
     let reply = make_reply(alloc, shown)?;
     Ok(reply)
 }

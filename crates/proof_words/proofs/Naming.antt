@@ -3,7 +3,7 @@ use Rattle.std.proofs.Common.{◌≡◌, ℕ, ◌+◌, Bool, true, false, not, �
 use Rattle.rail_base.specs.declared.station.Station.{Station}
 use Rattle.rail_base.specs.Numbering.{after_first}
 use Rattle.rail_base.proofs.Members.{and_left}
-use Rattle.bound_spec.specs.declared.BoundFault.{BoundFault}
+use Rattle.base_spec.specs.Bases.{left_in}
 use Rattle.bound_spec.specs.declared.Evidence.{Evidence}
 use Rattle.bound_spec.specs.declared.Evidence.TheVariants as evidence
 use Rattle.bound_spec.specs.declared.EvidenceFault.{EvidenceFault}
@@ -14,11 +14,11 @@ use Rattle.rail_text.specs.Pieces.{pieces}
 use Rattle.rail_text.specs.Pieces.{Line as Piece}
 use Rattle.sat_clause.specs.declared.lit.Lit.{Lit}
 use Rattle.sat_clause.specs.Clauses.{Store}
-use Rattle.bound_clause.specs.Numbered.{numbered_bound}
 use Rattle.log_checker.specs.declared.check_result.CheckResult.TheVariants.{Yes, No}
 use Rattle.log_checker.specs.declared.check_result.Reason.{Reason}
 use Rattle.log_checker.specs.declared.check_result.Reason.TheVariants.{HeadDiffers, BaseTooLarge, Text}
 use Rattle.log_checker.specs.Verdict.{SoFar, after_line, at_first, by_evidence, head_in, if_within, is_headed, may_stand, result_of, result_from, parsed, taken}
+use Rattle.clause_spec.specs.declared.question.BaseKind.{BaseKind}
 use Rattle.clause_spec.specs.Clauses.{past_limit}
 use Rattle.clause_spec.specs.declared.question.VariableCounts.{VariableCounts}
 use Rattle.proof_log.specs.declared.head.Head.{Head}
@@ -27,9 +27,8 @@ use Rattle.proof_log.specs.Heads.{base_of}
 use Rattle.proof_log.specs.declared.line.Line.{Line}
 use Rattle.proof_log.specs.declared.line.Line.TheVariants.{Derive, Refute, Forget}
 use Rattle.proof_log.specs.Lines.{line_in_bytes}
-use Rattle.proof_judge.specs.Judged.{all_live, clauses_under, judged, judged_by, judged_under, refuted, unless, variables_under}
-use Rattle.cone_clause.specs.Numbered.{numbered_clause}
-use Rattle.cone_spec.specs.declared.ConeFault.{ConeFault}
+use Rattle.proof_judge.specs.Judged.{all_live, clause_said, clauses_under, fault_of as fault_of_evidence, judged, judged_by, judged_under, not_in_design, refuted, variables_under}
+use Rattle.proof_judge.proofs.Showing.{none_of, shown_valid}
 use Rattle.cone_spec.specs.Validity as cone
 use Rattle.evidence_words.specs.Sentences.{names_what_is_there}
 use Rattle.evidence_words.specs.So.{is_valid}
@@ -38,32 +37,30 @@ use Rattle.proof_words.specs.Denied.{IsExplained, SentencesOfProofsDeny}
 use Rattle.proof_words.specs.Named.{IsNamedPiece, names_line}
 use Rattle.proof_words.proofs.Pieces.{in_all}
 
--- ---- what shows a clause names what is there
+-- ---- what shows a clause is valid
+
+-- no reason holds against it
+abbrev pub IsSound : Station → Evidence → Type 0
+IsSound d e = fault_of_evidence d e ≡ None
+
+shows_sound : (kind : BaseKind) (d : Station) (n : ℕ) (e : Evidence) (clause : List Lit) → refuted kind d n e ≡ Ok clause → IsSound d e
+shows_sound kind d n e clause h = (shown_valid (fault_of_evidence d e) (not_in_design e) (left_in kind d (routes_of d) n (clause_said d n e)) clause h).0
+
+valid_there : (d : Station) (e : Evidence) → IsSound d e → is_valid d e ≡ true
+valid_there d (evidence.Cone c) h = none_of of.Cone (cone.fault_of d (routes_of d) c) h
+valid_there d (evidence.Bound b) h = none_of of.Bound (fault_of d (routes_of d) b) h
+
+-- ---- and names what is there
 
 no_fault : (d b e : Bool) → is_none (first_fault d b e) ≡ true → d ≡ true
 no_fault false b e h = absurd (cc)
 no_fault true b e h = refl
 
--- no fault is found where there is a clause
-none_of : (f : Option BoundFault) (made clause : List Lit) → unless of.Bound f made ≡ Ok clause → is_none f ≡ true
-none_of None made clause h = refl
-none_of (Some f) made clause h = absurd (cc)
-
-pub names_there : (d : Station) (n : ℕ) (e : Evidence) (clause : List Lit) → refuted d n e ≡ Ok clause → names_what_is_there d (routes_of d) e ≡ true
-names_there d n (evidence.Cone c) clause h = refl
-names_there d n (evidence.Bound b) clause h =
-    let none = none_of (fault_of d (routes_of d) b) (numbered_bound d (routes_of d) n b) clause h in
+pub names_there : (d : Station) (e : Evidence) → IsSound d e → names_what_is_there d (routes_of d) e ≡ true
+names_there d (evidence.Cone c) h = refl
+names_there d (evidence.Bound b) h =
+    let none = none_of of.Bound (fault_of d (routes_of d) b) h in
     and_left (names_design d (routes_of d) b) (is_consistent d (routes_of d) b) (no_fault (in_design d (routes_of d) b) (covered d (routes_of d) b) (shows_failure d (routes_of d) b) none)
-
--- ---- and is valid
-
-none_of_cone : (f : Option ConeFault) (made clause : List Lit) → unless of.Cone f made ≡ Ok clause → is_none f ≡ true
-none_of_cone None made clause h = refl
-none_of_cone (Some f) made clause h = absurd (cc)
-
-valid_there : (d : Station) (n : ℕ) (e : Evidence) (clause : List Lit) → refuted d n e ≡ Ok clause → is_valid d e ≡ true
-valid_there d n (evidence.Cone c) clause h = none_of_cone (cone.fault_of d (routes_of d) c) (numbered_clause d (routes_of d) n c) clause h
-valid_there d n (evidence.Bound b) clause h = none_of (fault_of d (routes_of d) b) (numbered_bound d (routes_of d) n b) clause h
 
 -- ---- the lines that are taken
 
@@ -118,15 +115,21 @@ module _ (d : Station) (n : ℕ) where
   named_line (Refute e) h = h e refl
   named_line (Forget clauses) h = refl
 
-  piece_named : (p : Piece) → ShowsClause (refuted d n) p → IsNamedPiece d p
-  piece_named p shows line is = named_line line (λ e same. let c = shows e (is ∙ ap Some same) in names_there d n e c.0 c.1)
+  -- no reason holds against a cone or a bound that the piece spells
+  abbrev SpellsSound : Piece → Type 0
+  SpellsSound piece = (e : Evidence) → line_in_bytes piece.bytes ≡ Some (Refute e) → IsSound d e
 
-  -- all lines show their clauses
+  piece_named : (p : Piece) → SpellsSound p → IsNamedPiece d p
+  piece_named p sound line is = named_line line (λ e same. names_there d e (sound e (is ∙ ap Some same)))
+
+  -- so it is with all lines
   abbrev AllShow : List ℕ → Type 0
-  AllShow bytes = All (ShowsClause (refuted d n)) (after_first (pieces bytes))
+  AllShow bytes = All SpellsSound (after_first (pieces bytes))
 
   under_shown : (head : Head) (bytes : List ℕ) (k : ℕ) → judged_under head d n bytes ≡ Yes k → AllShow bytes
-  under_shown head bytes k found = all_shown head (refuted d n) (variables_under head d n) k (all_live (clauses_under head d n)) (pieces bytes) found
+  under_shown head bytes k found i other less =
+      let shows = all_shown head (refuted (base_of head) d n) (variables_under head d n) k (all_live (clauses_under head d n)) (pieces bytes) found i other less in
+      λ e is. let c = shows e is in shows_sound (base_of head) d n e c.0 c.1
 
   by_shown : (bytes : List ℕ) (head : Option Head) (k : ℕ) → judged_by d n bytes head ≡ Yes k → AllShow bytes
   by_shown bytes None k found = under_shown Unnamed bytes k found
@@ -151,8 +154,7 @@ module _ (d : Station) (n : ℕ) where
   -- and is valid
   pub judged_valid : (bytes : List ℕ) (k : ℕ) → judged d n bytes ≡ Yes k → (e : Evidence) → IsExplained bytes e → is_valid d e ≡ true
   judged_valid bytes k found e is =
-      let shows = in_all (ShowsClause (refuted d n)) (after_first (pieces bytes)) (judged_shown bytes k found) is.piece is.there e is.spells in
-      valid_there d n e shows.0 shows.1
+      valid_there d e (in_all SpellsSound (after_first (pieces bytes)) (judged_shown bytes k found) is.piece is.there e is.spells)
 
 pub proofs_deny : SentencesOfProofsDeny
 proofs_deny d admitted n k bytes found e is m plan so feasible = deny d admitted m plan feasible e (judged_valid d n bytes k found e is) so

@@ -3,13 +3,10 @@ use Rattle.std.proofs.Common.{◌≡◌, ◌≢◌, ◌≤◌, ◌<◌, ℕ, tru
 use Rattle.std.specs.List.{concat}
 use Rattle.std.proofs.lemmas.List.{append-nil}
 use Rattle.infra_reader.specs.Design.{design_of}
-use Rattle.log_checker.specs.declared.check_result.CheckResult.TheVariants.{Yes}
 use Rattle.clause_spec.specs.Clauses.{past_limit}
 use Rattle.verify_loop.specs.declared.outcome.Aim.{Aim}
 use Rattle.rail_words.specs.declared.request.SearchMode.{SearchMode}
 use Rattle.rail_words.specs.declared.request.SearchMode.TheVariants as by
-use Rattle.clause_spec.specs.declared.question.BaseKind.TheVariants.{Plain}
-use Rattle.proof_judge.specs.Judged.{judged}
 use Rattle.proof_judge.proofs.Sound.{yes_infeasible}
 use Rattle.infra_reader.proofs.Reading.{spelled_admitted}
 use Rattle.rail_base.specs.Admission.{is_admitted}
@@ -39,12 +36,12 @@ use Rattle.cli_shell.specs.Texts.{usage_line, limit_of, too_large_line}
 use Rattle.proof_shell.specs.Texts.{yes_line}
 use Rattle.rail_cli.specs.Texts.{infeasible_line}
 use Rattle.cli_shell.specs.Answers.{ReplySeen, one_line, within_limit, with_routes, and_then, design_in, unless_refused}
-use Rattle.proof_shell.specs.Answers.{unless_too_large, with_clauses, reply_for, checked_against, with_proof, check_reply}
+use Rattle.proof_shell.specs.Answers.{with_clauses, for_file, reply_for, checked_against, with_proof, check_reply}
 use Rattle.rail_cli.specs.Answers.{reply_for_plan, reply_for_outcome, searched_in, aim_of, search_reply, answer_to, answer_of}
 use Rattle.cli_shell.specs.Shows.{verdict_at_horizon}
 use Rattle.cli_shell.specs.Replies.{reply_seen, ReadsOrEnds, RefusesFile, OnlyFails, Replies}
 use Rattle.rail_cli.specs.Replies.{EndsIn, EndsWith, RepliesSo, RepliesTrial}
-use Rattle.rail_cli.specs.Searches.{budgets_of, Finds, HoldsLog, HoldsProof, SearchLeaves, Leaves, Searches, ReportsPlan, ReportsNone}
+use Rattle.rail_cli.specs.Searches.{budgets_of, Finds, ShowsNone, HoldsLog, HoldsProof, SearchLeaves, Leaves, Searches, ReportsPlan, ReportsNone}
 use Rattle.rail_cli.specs.Checks.{Checks, ReportsInfeasible}
 use Rattle.cli_shell.specs.Simulations.{ReportsFeasible}
 use Rattle.rail_cli.specs.Simulations.{Simulates, DoneWhereFeasible}
@@ -54,7 +51,7 @@ use Rattle.proof_shell.proofs.Passing.{clauses_refuse}
 use Rattle.cli_shell.proofs.Refusing.{file_fits, file_is}
 use Rattle.cli_shell.proofs.Deciding.{answered_next, answered_refusal, prints_answer}
 use Rattle.rail_cli.proofs.Deciding.{tells_of_reply}
-use Rattle.proof_shell.proofs.Judging.{too_large_refused, small_passes, base_passes}
+use Rattle.proof_shell.proofs.Judging.{too_large_refused, small_passes, judged_passes}
 use Rattle.rail_cli.proofs.Judging.{tells_infeasible}
 use Rattle.cli_shell.proofs.Showing.{done_exactly, runs_safely, met_first}
 
@@ -265,12 +262,7 @@ module _ (files : Files) (words : List (List ℕ)) (reply : Reply) (t : Status) 
 record Searched (m : Aim) (n conflicts ticks : ℕ) (design_bytes : List ℕ) (found : Outcome) (d : Station) : Type 0 where
   fits : within_limit file.Design design_bytes ≡ Ok design_bytes
   reads : design_in design_bytes ≡ Ok d
-  clauses : with_clauses m.base n d ≡ Ok d
   answer : search_reply m n conflicts ticks design_bytes found ≡ reply_for_outcome d n conflicts ticks found
-
-same_clauses : (d : Station) (many : Option ℕ) (e : Station) → unless_too_large d many ≡ Ok e → unless_too_large d many ≡ Ok d
-same_clauses d None e h = refl
-same_clauses d (Some k) e h = absurd (cc)
 
 was_searched : (m : Aim) (n conflicts ticks : ℕ) (design_bytes : List ℕ) (found : Outcome) (d : Station) → design_of design_bytes ≡ Ok d → is_verdict (search_reply m n conflicts ticks design_bytes found).status ≡ true → Searched m n conflicts ticks design_bytes found d
 was_searched m n conflicts ticks design_bytes found d spells verdict =
@@ -279,11 +271,9 @@ was_searched m n conflicts ticks design_bytes found d spells verdict =
     let three = passed (with_clauses m.base n two.read) (λ same. reply_for_outcome two.read n conflicts ticks found) (clauses_refuse two.read (past_limit 16000000 0 (first_clauses m two.read n))) two.verdict in
     let text : design_bytes ≡ one.read = file_is file.Design design_bytes one.read one.is in
     let same : d ≡ two.read = read-same one.read d two.read (ap design_of (sym text) ∙ spells) two.is in
-    let few : with_clauses m.base n two.read ≡ Ok two.read = same_clauses two.read (past_limit 16000000 0 (first_clauses m two.read n)) three.read three.is in
     record {
       fits = one.is ∙ ap (λ (bytes : List ℕ). Ok bytes) (sym text);
       reads = ap design_in text ∙ (two.is ∙ ap (λ (e : Station). Ok e) (sym same));
-      clauses = subst (λ (e : Station). with_clauses m.base n e ≡ Ok e) (sym same) few;
       answer = (one.comes ∙ (two.comes ∙ three.comes)) ∙ ap (λ (e : Station). reply_for_outcome e n conflicts ticks found) (sym same);
     }
 
@@ -370,13 +360,13 @@ module _ (files : Files) (words : List (List ℕ)) (n : ℕ) (d : Station) (s : 
       }
 
   -- what a check says of the stored log
-  log_passes : Searched by_here n s.conflicts s.ticks (files s.design_name) found_here d → (log : List ℕ) → length log ≤ limit_of file.Proof → judged d n log ≡ Yes n → check_reply n (files s.design_name) log ≡ one_line statuses.Done (yes_line n)
-  log_passes q log short shows =
+  log_passes : Searched by_here n s.conflicts s.ticks (files s.design_name) found_here d → (log : List ℕ) → ShowsNone d n log → check_reply n (files s.design_name) log ≡ one_line statuses.Done (yes_line n)
+  log_passes q log proves =
       answered_next (within_limit file.Design (files s.design_name)) (files s.design_name) (λ bytes. unless_refused (design_in bytes) (λ e. with_proof n e log)) q.fits
       ∙ (answered_next (design_in (files s.design_name)) d (λ e. with_proof n e log) q.reads
-      ∙ (answered_next (with_clauses Plain n d) d (λ same. unless_refused (within_limit file.Proof log) (checked_against d n)) (base_passes by_here.base n d q.clauses)
-      ∙ (answered_next (within_limit file.Proof log) log (checked_against d n) (file_fits file.Proof log short)
-      ∙ ap reply_for shows)))
+      ∙ (answered_next (within_limit file.Proof log) log (λ text. unless_refused (for_file n d text) (λ same. checked_against d n text)) (file_fits file.Proof log proves.within_limit)
+      ∙ (answered_next (for_file n d log) d (λ same. checked_against d n log) (judged_passes n d log proves.few)
+      ∙ ap reply_for proves.shows)))
 
   -- status 1 says that there is none, and such a log is stored
   pub tells_none : (old new : Option Files) → old ≡ Some files → Leaves (request_of words) t old new → t ≡ statuses.No → ReportsNone files s.design_name s.proof_name n d text new_text new
@@ -396,5 +386,5 @@ module _ (files : Files) (words : List (List ℕ)) (n : ℕ) (d : Station) (s : 
         text = prints.written answered ∙ (ap (λ (a : ReplySeen). grown text (concat a.lines)) line ∙ ap (grown text) (append-nil (infeasible_line n)));
         none = (yes_infeasible d (spelled_admitted (files s.design_name) d s.parses_design) n n log.log some log.proves.shows).1.1;
         stored = log;
-        passes = log_passes q log.log log.proves.within_limit log.proves.shows;
+        passes = log_passes q log.log log.proves;
       }

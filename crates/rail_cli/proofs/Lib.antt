@@ -1,5 +1,6 @@
 pub mod Deciding
 pub mod Judging
+pub mod Logs
 pub mod Leaving
 pub mod Stored
 pub mod Finding

@@ -103,7 +103,7 @@ comes_so files (Some (verify n conflicts ticks mode design proof)) found s finds
     spent_in (aim_of mode) u.0 (files design) n (budgets_of conflicts ticks) s u.1.parses
     (ends_so (aim_of mode) u.0 n (budgets_of conflicts ticks) u.2 s answered found (finds u.0 (reads (files design) u.0 u.1)) (status_so _ _ s is (searched_so (files design) u.0 u.1 (aim_of mode) n conflicts ticks found u.2) ∙ search_status u.0 n conflicts ticks found))
 comes_so files (Some (check n design proof)) found s finds is u answered =
-    subst IsVerdict (sym (status_so _ _ s is (checked_so (files design) u.0 u.1 n (files proof) u.2 u.3))) (told_verdict (judged u.0 n (files proof)))
+    subst IsVerdict (sym (status_so _ _ s is (checked_so (files design) u.0 u.1 n (files proof) u.3 u.2))) (told_verdict (judged u.0 n (files proof)))
 comes_so files (Some (trial seed size)) found s finds is u answered =
     ends_so (aim_of by.Plain) (made seed size) (2 * size) (budgets_of trial_conflicts trial_ticks) u.1 s answered found finds (status_so _ _ s is (tried_so seed size found u.0 u.1) ∙ trial_status seed size (made seed size) found)
 

@@ -30,6 +30,7 @@ use Rattle.proof_shell.specs.Texts.{yes_line}
 use Rattle.rail_cli.specs.Texts.{infeasible_line}
 use Rattle.cli_shell.specs.Answers.{one_line, design_in}
 use Rattle.proof_shell.specs.Answers.{check_reply}
+use Rattle.proof_shell.specs.Verdicts.{HasFewFor}
 use Rattle.rail_cli.specs.Answers.{reply_for_plan, aim_of, trial_conflicts, trial_ticks}
 use Rattle.cli_shell.specs.Shows.{verdict_at_horizon}
 use Rattle.cli_shell.specs.Simulations.{RunsSafely}
@@ -76,9 +77,11 @@ Tells files _ old new = new ≡ old
 
 -- ---- what a run leaves on the shelf
 
--- the log is no longer than a proof may be, and shows that the design has no plan of n steps
+-- the log is no longer than a proof may be, the clauses that are asked of before it is judged are few, and it shows
+-- that the design has no plan of n steps
 pub record ShowsNone (d : Station) (n : ℕ) (log : List ℕ) : Type 0 where
   pub within_limit : length log ≤ limit_of file.Proof
+  pub few : HasFewFor d n log
   pub shows : judged d n log ≡ Yes n
 
 -- the shelf holds these files with such a log under the proof's name

@@ -19,11 +19,11 @@ use Rattle.cli_shell.specs.Texts.{limit_of}
 use Rattle.rail_cli.specs.Answers.{aim_of, trial_conflicts, trial_ticks}
 use Rattle.rail_cli.specs.Searches.{budgets_of}
 use Rattle.cli_shell.specs.Verdicts.{HasRoutes, IsDesignText, IsPlanText, IsVerdict}
-use Rattle.proof_shell.specs.Verdicts.{HasFewClauses}
+use Rattle.proof_shell.specs.Verdicts.{HasFewClauses, HasFewFor}
 
 -- ---- where nothing is refused
 
--- something is asked for, and nothing of it is refused: each file that is read is within its limit, they spell a design and a plan, and the clauses of a search, a check or a trial are few; a trial reads no file
+-- something is asked for, and nothing of it is refused: each file that is read is within its limit, they spell a design and a plan, and the clauses of a search, of a proof's file or of a trial are few; a trial reads no file
 abbrev pub IsUnrefused : Files → Option RequestSeen → Type 0
 IsUnrefused files None = ⊥
 IsUnrefused files (Some (simulate design plan)) =
@@ -32,8 +32,8 @@ IsUnrefused files (Some (routes design)) = (d : Station) × IsDesignText (files 
 IsUnrefused files (Some (verify n conflicts ticks mode design proof)) =
     (d : Station) × IsDesignText (files design) d × HasFewClauses (aim_of mode).base d n
 IsUnrefused files (Some (check n design proof)) =
-    (d : Station) × IsDesignText (files design) d × HasFewClauses Plain d n
-    × (length (files proof) ≤ limit_of file.Proof)
+    (d : Station) × IsDesignText (files design) d × (length (files proof) ≤ limit_of file.Proof)
+    × HasFewFor d n (files proof)
 IsUnrefused files (Some (trial seed size)) =
     HasRoutes (made seed size) × HasFewClauses Plain (made seed size) (2 * size)
 

@@ -93,7 +93,7 @@ pub(crate) fn search_reply<S: Shelf, P: Sink>(
     )
 }
 
-/// What is looked for, and by which clauses.
+/// What is looked for, and by which clauses: with bounds by those of live commands.
 pub(crate) fn aim_of(mode: SearchMode) -> Aim
     ensures { result ≡ aim_of mode }
 {
@@ -103,11 +103,11 @@ pub(crate) fn aim_of(mode: SearchMode) -> Aim
             wanted: Wanted::Fewest,
         },
         SearchMode::Bounds => Aim {
-            base: BaseKind::Sorted,
+            base: BaseKind::Live,
             wanted: Wanted::Fewest,
         },
         SearchMode::Any => Aim {
-            base: BaseKind::Sorted,
+            base: BaseKind::Live,
             wanted: Wanted::Any,
         },
         SearchMode::Normal => Aim {
@@ -243,25 +243,25 @@ fn settle<S: Shelf>(
     alloc: Global,
     shelf: &mut S,
     design: &Design,
-    steps: u32,
+    steps: Steps,
     budgets: Budgets,
     proof: &str,
     found: &Outcome,
 ) -> Result<Reply, Ending>
-    requires says { (m : Aim) × IsOutcome m design.now.station steps budgets found.now }
+    requires says { (m : Aim) × IsOutcome m design.now.station steps.count budgets found.now }
     requires room { budgets.log_bytes ≡ limit_of InputFile.Proof }
     ensures replies { Replies result
-        (reply_for_outcome design.now.station steps budgets.conflicts budgets.ticks found.now) }
+        (reply_for_outcome design.now.station steps.count budgets.conflicts budgets.ticks found.now) }
     ensures no_usage { IfOk result (λ reply. reply.status ≢ Status.Usage) }
     ensures refuses { RefusesFile result }
     ensures stored { (files : Files) (name : List ℕ) → S.known_files shelf.old ≡ Some files
         → design_in (files name) ≡ Ok design.now.station
-        → OnEnd result (λ s. SearchLeaves files steps name proof.now s (S.known_files shelf.new)) }
+        → OnEnd result (λ s. SearchLeaves files steps.count name proof.now s (S.known_files shelf.new)) }
     ensures cause { result ≡ Err Ending.ShelfFault → Rose (S.fault_count shelf.old) (S.fault_count shelf.new) }
     ensures never_falls { S.fault_count shelf.old ≤ S.fault_count shelf.new }
     ensures asks { GrowsByPrefix (S.asked shelf.old) (S.asked shelf.new) (stored proof.now ∷ []) }
 {
-    let reply = make_reply(alloc, design, steps, budgets, found)?;
+    let reply = make_reply(alloc, design, steps.count, budgets, found)?;
     keep(shelf, proof, found)?;
     Ok(reply)
 }
@@ -298,7 +298,7 @@ fn searched_in<S: Shelf, P: Sink>(
         alloc,
         shelf,
         &interlocking.design,
-        steps.count,
+        steps,
         budgets,
         proof,
         &found,

@@ -8,11 +8,13 @@ use Rattle.rail_spec.specs.Track.{routes_of}
 use Rattle.rail_spec.specs.Plans.{is_executable}
 use Rattle.rail_spec.specs.Feasible.{IsWellFormed}
 use Rattle.rail_spec.specs.Safety.{Clash, KeepsToTrack}
+use Rattle.rail_laws.specs.Overlaps.{OverlapsStayFree}
 use Rattle.rail_laws.specs.Progress.{IsGrantedInTime}
 use Rattle.rail_base.proofs.Admitting.{admitted}
 use Rattle.rail_spec.specs.Dispatches.{of_plan}
 use Rattle.rail_laws.proofs.Admits.{never_clash, sound}
 use Rattle.rail_laws.proofs.Authority.{stands_at_visit}
+use Rattle.rail_laws.proofs.KeptFree.{stay_free}
 use Rattle.rail_laws.proofs.Keeping.{keeps_authority, keeps_all_limits}
 use Rattle.rail_laws.proofs.Lively.{no_deadlock}
 use Rattle.rail_course.specs.Standing.{StandsAtVisits}
@@ -26,6 +28,10 @@ module _ (d : Station) (good : is_admitted d ≡ true) (routes : List Route) (sa
   apart executable =
       subst (λ rs. (k : ℕ) → Clash d rs plan k → ⊥) (sym same)
       (never_clash d (admitted d good) 256 plan over_these.formed (subst (λ rs. is_executable d rs plan ≡ true) same executable))
+
+  -- overlaps are kept free of other trains
+  pub free : OverlapsStayFree d routes plan
+  free = subst (λ rs. OverlapsStayFree d rs plan) (sym same) (stay_free d (admitted d good) 256 plan over_these.formed)
 
   -- each is within its authority and its limits
   pub keeps : KeepsToTrack d routes plan

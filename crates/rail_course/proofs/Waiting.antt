@@ -84,15 +84,3 @@ module _ (d : Station) (routes : List Route) (p : Dispatch) (ps : List (List Tra
 
   pub ready_when_over : (c : Command) → list_all (is_over ps) (waits_of d routes p c) ≡ is_ready d routes p ps c
   ready_when_over c = list_all-parts (is_over ps) (waits_for d routes p c) (p.before c) ∙ list_all-same (λ e. list_all (is_over ps) (waits_for d routes p c e)) (has_cleared d routes p ps c) (p.before c) (λ e m. waits_over c e)
-
--- the commands of a plan give their trains routes of their paths
-in_given : (t : TrainNo) (step : List Command) (c : Command) → In c step → c.train ≡ t → In c.route (routes_given t step)
-in_given t step c m same = in_map (λ e. e.route) (filter (λ e. is_train e.train t) step) c (in_filter (λ e. is_train e.train t) step c m (eq-eqb c.train.0 t.0 (ap (λ (u : TrainNo). u.0) same)))
-
-pub command_on_path : (plan : List (List Command)) (c : Command) → In c (commands plan) → In c.route (path plan c.train)
-command_on_path [] c m = absurd m
-command_on_path (step ∷ steps) c m = go (in_append c step (commands steps) m) (command_on_path steps c)
-  where
-    go : In c step ⊎ In c (commands steps) → (In c (commands steps) → In c.route (path steps c.train)) → In c.route (path (step ∷ steps) c.train)
-    go (inl k) later = in_append_left c.route (routes_given c.train step) (path steps c.train) (in_given c.train step c k refl)
-    go (inr k) later = in_append_right c.route (routes_given c.train step) (path steps c.train) (later k)

@@ -9,7 +9,6 @@ use anyhow::Result;
 use infra_reader::read_design;
 use interlocking::{Interlocking, Steps};
 use log_checker::CheckResult;
-use plan_encoding::base;
 use proof_judge::judge;
 use rail_files::FileShelf;
 use rail_outside::Shelf;
@@ -39,8 +38,7 @@ fn ends_well(
     if ending.refused != refused {
         return Ok(false);
     }
-    let base = base(alloc, interlocking, steps)?;
-    let shown = judge(alloc, interlocking, base, ending.log.as_slice())?;
+    let shown = judge(alloc, interlocking, steps, ending.log.as_slice())?;
     Ok(matches!(shown, CheckResult::Yes { steps: STEPS }))
 }
 

@@ -9,7 +9,7 @@ use crate::adding::SearchState;
 use anyhow::{Result, bail, ensure};
 use bound_spec::Evidence;
 use clause_spec::{BaseKind, Question};
-use cone_form::Contention;
+use cone_clause::Contention;
 use halting::Halting;
 use interlocking::{Interlocking, Steps};
 use log_checker::Refuter;
@@ -131,6 +131,7 @@ impl PlanSearch<'_> {
         };
         let design = ByDesign {
             contention,
+            kind: BaseKind::Plain,
             steps: self.base.numbering.steps(),
         };
         match design.clause_of(self.alloc, evidence) {

@@ -1,16 +1,14 @@
 //! Cones over a station with a boundary, from which an edge leads to a dead end, and one train.
 
 ghost use Rattle.std.specs.Prelude.{◌≡◌, [], ◌∷◌, false, true, pos, IfOk};
-ghost use Rattle.clause_spec.specs.Variables.{pairs};
 ghost use Rattle.rail_base.specs.Admission.{is_admitted};
 ghost use Rattle.rail_base.specs.declared.route.Finish.TheVariants as finish;
 ghost use Rattle.rail_base.specs.declared.route.Start.TheVariants as start;
 ghost use Rattle.rail_spec.specs.Track.{routes_of};
 
 use crate::stations::{edge, name, node, one, train, two, vehicle};
-use cone_form::{Contention, SortedPairs, is_free, is_in_design};
+use cone_form::{SortedPairs, is_free, is_in_design};
 use cone_spec::{Cone, ConeTrain};
-use contending::ContendingPairs;
 use interlocking::Interlocking;
 use rail_base::design::Design;
 use rail_base::list::List;
@@ -31,7 +29,6 @@ fn dead_end(alloc: Global) -> Result<Station, AllocError>
       sections = (record { 0 = 1 }, pos 10000) ∷ [];
       overlaps = [];
     } ∷ []) }
-    ensures pairs { IfOk result (λ d. pairs d (routes_of d) ≡ []) }
 {
     let west = node(alloc, b'w', true)?;
     let east = node(alloc, b'e', false)?;
@@ -85,10 +82,8 @@ fn table(alloc: Global) -> Result<RouteTable, AllocError>
     one(alloc, route)
 }
 
-/// Its interlocking, in which no commands contend.
-fn one_route(alloc: Global) -> Result<Interlocking, AllocError>
-    ensures { IfOk result (λ i. pairs i.design.station i.routes ≡ []) }
-{
+/// Its interlocking.
+fn one_route(alloc: Global) -> Result<Interlocking, AllocError> {
     let station = dead_end(alloc)?;
     let routes = table(alloc)?;
     Interlocking::new(alloc, Design { station }, routes)
@@ -137,20 +132,14 @@ fn no_trains(alloc: Global, visit: u32) -> Cone {
 fn cones_of_a_design(rt: HostRuntime) -> Result<(), AllocError> {
     let alloc = rt.alloc();
     let interlocking = one_route(alloc)?;
-    let pairs = ContendingPairs::new(alloc, &interlocking)?;
-    assert_eq!(rt; pairs.count(), 0);
-    let contention = Contention {
-        interlocking: &interlocking,
-        pairs: &pairs,
-    };
     for (free, fits) in [(0, true), (1, true), (2, false)] {
         let cone = cone_of(alloc, free)?;
-        assert_eq!(rt; is_in_design(alloc, &contention, &cone)?, fits, "{free}");
+        assert_eq!(rt; is_in_design(alloc, &interlocking, &cone)?, fits, "{free}");
         assert_eq!(rt; is_free(&cone, first_route(1)), free > 0, "{free}");
     }
     for (visit, fits) in [(2, true), (3, false)] {
         let cone = no_trains(alloc, visit);
-        assert_eq!(rt; is_in_design(alloc, &contention, &cone)?, fits, "{visit}");
+        assert_eq!(rt; is_in_design(alloc, &interlocking, &cone)?, fits, "{visit}");
     }
     Ok(())
 }

@@ -114,7 +114,7 @@ fn other_lines_are_refused(rt: HostRuntime) {
 
 #[test]
 fn heads_are_read_and_written(rt: HostRuntime) -> Result<(), AllocError> {
-    let rows: [(&[u8], Head); 6] = [
+    let rows: [(&[u8], Head); 8] = [
         (b"rcvlog 1", Head::Unnamed),
         (
             b"rcvlog 2 1 12",
@@ -149,6 +149,22 @@ fn heads_are_read_and_written(rt: HostRuntime) -> Result<(), AllocError> {
             }),
         ),
         (
+            b"rcvlog 5 1 12",
+            Head::Of(Question {
+                version: 1,
+                steps: 12,
+                base: BaseKind::Live,
+            }),
+        ),
+        (
+            b"rcvlog 5 999999999999999999 0",
+            Head::Of(Question {
+                version: 999_999_999_999_999_999,
+                steps: 0,
+                base: BaseKind::Live,
+            }),
+        ),
+        (
             b"rcvlog 3 1 12",
             Head::Of(Question {
                 version: 1,
@@ -166,7 +182,7 @@ fn heads_are_read_and_written(rt: HostRuntime) -> Result<(), AllocError> {
 
 #[test]
 fn other_heads_are_refused(rt: HostRuntime) {
-    let rows: [&[u8]; 14] = [
+    let rows: [&[u8]; 17] = [
         b"",
         b"rcvlog",
         b"rcvlog 1 ",
@@ -176,10 +192,13 @@ fn other_heads_are_refused(rt: HostRuntime) {
         b"rcvlog 2 01 2",
         b"rcvlog 2 1 2 3",
         b"rcvlog 2 1000000000000000000 1",
-        b"rcvlog 5 1 2",
+        b"rcvlog 6 1 2",
         b"rcvlog 4",
         b"rcvlog 4 1",
         b"rcvlog 4 1 1000000000000000000",
+        b"rcvlog 5",
+        b"rcvlog 5 1",
+        b"rcvlog 5 1 1000000000000000000",
         b"log 1",
     ];
     for bytes in rows {

@@ -2,4 +2,3 @@ pub mod Marking
 mod Gathering
 mod Pairing
 mod Moving
-pub mod Kept

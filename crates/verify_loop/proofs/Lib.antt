@@ -1,5 +1,6 @@
 pub mod Held
 pub mod Made
+pub mod Spoken
 pub mod Timing
 pub mod Known
 pub mod Heading

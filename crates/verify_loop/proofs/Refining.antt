@@ -84,12 +84,12 @@ module _ (m : Aim) (d : Station) (n : ℕ) (b : Budgets) (some : 1 ≤ n) (store
       pub few : length (with_log (base m d n) lines) ≤ greatest_clause_number
       few = let same = ap length clauses_are in omega arith
 
-      pub go_on : AllGoOn (head m d n) (refuted d n) (vars m d n) (base m d n) [] lines
+      pub go_on : AllGoOn (head m d n) (refuted m.base d n) (vars m d n) (base m d n) [] lines
       go_on =
           let same = ap length longer in
           let short = few in
-          go-on-append (head m d n) (refuted d n) (vars m d n) (base m d n) [] s.lines (map log_line_of more) s.log.run.go_on
-          (all-go-on (vars m d n) s.below_2_32 some (head m d n) (refuted d n) assumed (with_log (base m d n) s.lines) (learnt_in (base m d n) [] s.lines) more (omega arith) s.below all_new)
+          go-on-append (head m d n) (refuted m.base d n) (vars m d n) (base m d n) [] s.lines (map log_line_of more) s.log.run.go_on
+          (all-go-on (vars m d n) s.below_2_32 some (head m d n) (refuted m.base d n) assumed (with_log (base m d n) s.lines) (learnt_in (base m d n) [] s.lines) more (omega arith) s.below all_new)
 
       -- the text is a log of the search
       pub log_so : IsLog m d n lines s.rs new.text
@@ -180,7 +180,7 @@ module _ (m : Aim) (d : Station) (n : ℕ) (b : Budgets) (some : 1 ≤ n) (store
           let all = before ++ Learnt (core, hints) ∷ [] in
           ap (judged d n) whole ∙ (ap (judged_by d n (log_text (head m d n) all)) (headed number_of-decimal (head m d n) kept all)
           ∙ (judged_so m d n (log_text (head m d n) all) fits
-          ∙ accepted (head m d n) (refuted d n) (vars m d n) (base m d n) before (core, hints) kept (go_on now more went fewer) last))
+          ∙ accepted (head m d n) (refuted m.base d n) (vars m d n) (base m d n) before (core, hints) kept (go_on now more went fewer) last))
 
       pub proof_so : keeps_head (head m d n) ≡ true → past_limit 16000000 0 (first_clauses m d n) ≡ None → derive_count more < b.conflicts - derives → EndedRunsAreAccepted → IsProof m d n b new.text
       proof_so kept fits less accepted = record {
@@ -225,7 +225,7 @@ module _ (m : Aim) (d : Station) (n : ℕ) (b : Budgets) (some : 1 ≤ n) (store
         log = record {
           run = record {
             text = sym (ap (λ (z : State). z.text) is) ∙ whole;
-            go_on = go-on-append (head m d n) (refuted d n) (vars m d n) (base m d n) [] before (Learnt (core, hints) ∷ []) (go_on now more went fewer) (goes_on.0, tt);
+            go_on = go-on-append (head m d n) (refuted m.base d n) (vars m d n) (base m d n) [] before (Learnt (core, hints) ∷ []) (go_on now more went fewer) (goes_on.0, tt);
           };
           of_failed_plans = record { evidence = evidence-lines before (inl (core, hints) ∷ []) ∙ (log_so now more went fewer).of_failed_plans.evidence; refuted = s.log.of_failed_plans.refuted };
         };
@@ -249,12 +249,12 @@ module _ (m : Aim) (d : Station) (n : ℕ) (b : Budgets) (some : 1 ≤ n) (store
           let clauses = with_log (base m d n) before ++ (core, true) ∷ [] in
           let live : live_clause (with_log (base m d n) (before ++ Learnt (core, hints) ∷ [])) (length clauses) ≡ Some core =
           subst (λ (z : Store). live_clause z (length clauses) ≡ Some core) with_it (live-last (with_log (base m d n) before) clauses core (length clauses) refl refl) in
-          let go = go-on-append (head m d n) (refuted d n) (vars m d n) (base m d n) [] before (Learnt (core, hints) ∷ []) (go_on now more went fewer) (goes_on.0, tt) in
+          let go = go-on-append (head m d n) (refuted m.base d n) (vars m d n) (base m d n) [] before (Learnt (core, hints) ∷ []) (go_on now more went fewer) (goes_on.0, tt) in
           let says = ap (steps_denied (vars m d n)) goes_on.1 ∙ denies-step (vars m d n) steps s.at_least_one s.at_most_n in
-          sound d good n steps some (denials (head m d n) (refuted d n) (vars m d n) (base m d n) (before ++ Learnt (core, hints) ∷ []) (length clauses) steps core go live says)
+          sound d good n steps some (denials (head m d n) (refuted m.base d n) (vars m d n) (base m d n) (before ++ Learnt (core, hints) ∷ []) (length clauses) steps core go live says)
 
   -- where a clause denies these steps, there is no plan of so many
   pub known_so : IsAdmitted d → DenialsAreSo → DeniedIsInfeasible m → HasUnit store (opposite (by_step (vars m d n) steps)) → IsInfeasible d steps
   known_so good denials sound unit =
       let live = subst (λ (z : Store). live_clause z unit.0 ≡ Some (opposite (by_step (vars m d n) steps) ∷ [])) s.clauses unit.1 in
-      sound d good n steps some (denials (head m d n) (refuted d n) (vars m d n) (base m d n) s.lines unit.0 steps (opposite (by_step (vars m d n) steps) ∷ []) s.log.run.go_on live (denies-step (vars m d n) steps s.at_least_one s.at_most_n))
+      sound d good n steps some (denials (head m d n) (refuted m.base d n) (vars m d n) (base m d n) s.lines unit.0 steps (opposite (by_step (vars m d n) steps) ∷ []) s.log.run.go_on live (denies-step (vars m d n) steps s.at_least_one s.at_most_n))

@@ -43,7 +43,7 @@ module _ (q : PlanSearch) where
 
   -- the values give the plan
   abbrev pub AreValuesFor : List Bool → List (List Command) → Type 0
-  AreValuesFor = AreValuesOfPlan station_of most_steps
+  AreValuesFor = AreValuesOfPlan q.aim.base station_of most_steps
 
   -- the line and the clause of a cone or a bound that shows that a plan fails
   abbrev pub Excludes : List (List Command) → Exclusion → Type 0

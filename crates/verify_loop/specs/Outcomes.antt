@@ -1,11 +1,12 @@
 -- What each end of a search says of a design, for plans of at most n steps.
-use Rattle.std.specs.Prelude.{ℕ, ◌≡◌, ◌+◌, ◌<◌, ◌≤◌, ◌⊎◌, true, List, [], ◌∷◌, ◌++◌, map, length, None, Some, sum_by}
+use Rattle.std.specs.Prelude.{ℕ, ◌≡◌, ◌+◌, ◌<◌, ◌≤◌, ◌⊎◌, List, [], ◌∷◌, ◌++◌, map, flat_map, length}
+use Rattle.std.specs.Prelude.{None, Some, sum_by}
 use Rattle.log_checker.specs.declared.check_result.CheckResult.TheVariants.{Yes}
 use Rattle.base_spec.specs.Bases.{HasModelFor}
 use Rattle.clause_spec.specs.Clauses.{past_limit}
 use Rattle.clause_spec.specs.declared.question.VariableCounts.{VariableCounts}
 use Rattle.plan_exclusion.specs.Exclusions.{head_for}
-use Rattle.plan_exclusion.specs.Failures.{IsRefutedBy, clause_of_evidence}
+use Rattle.plan_exclusion.specs.Failures.{IsRefutedBy, clauses_of_evidence}
 use Rattle.proof_judge.specs.Judged.{all_live, clauses_under, judged, refuted, variables_under}
 use Rattle.proof_log.specs.declared.line.Line.TheVariants.{Refute}
 use Rattle.bound_spec.specs.declared.Evidence.{Evidence}
@@ -60,7 +61,7 @@ module _ (m : Aim) (d : Station) (n : ℕ) where
   abbrev pub head : Head
   head = head_for m.base d n
 
-  -- the clauses that a search begins with: where there is a plan, the model of one makes them true
+  -- the clauses that a search begins with: where there is a plan, values of one make them true
   abbrev pub first_clauses : List (List Lit)
   first_clauses = clauses_under head d n
 
@@ -72,16 +73,16 @@ module _ (m : Aim) (d : Station) (n : ℕ) where
   abbrev pub base : Store
   base = all_live first_clauses
 
-  -- these clauses, and those of these cones and bounds
+  -- these clauses, and what is left of those of these cones and bounds
   abbrev pub clauses_with : List Evidence → List (List Lit)
-  clauses_with known = first_clauses ++ map (clause_of_evidence d n) known
+  clauses_with known = first_clauses ++ flat_map (clauses_of_evidence m.base d n) known
 
   -- ---- plans that fail
 
-  -- a plan that can be carried out, and values of its model that make the clauses true, those of these cones and bounds too
+  -- a plan that can be carried out, and values of it that make the clauses true, those of these cones and bounds too
   pub record IsFound (known : List Evidence) (plan : List (List Command)) : Type 0 where
     pub runnable : IsRunnable d (routes_of d) n plan
-    pub model : HasModelFor d (routes_of d) n plan (clauses_with known)
+    pub model : HasModelFor m.base d (routes_of d) n plan (clauses_with known)
 
   -- each plan fails, and was found where the cones and bounds of those before were known, besides these
   abbrev pub AreRefuted : List Evidence → List Refutal → Type 0
@@ -98,7 +99,7 @@ module _ (m : Aim) (d : Station) (n : ℕ) where
 
   -- a log of the search, with these lines and plans that failed
   pub record IsLog (lines : List LogLine) (rs : List Refutal) (log : List ℕ) : Type 0 where
-    pub run : IsRunLog head (refuted d n) vars base lines log
+    pub run : IsRunLog head (refuted m.base d n) vars base lines log
     pub of_failed_plans : AreOfFailedPlans lines rs
 
   -- a derived line that the search may record next
@@ -139,7 +140,7 @@ module _ (m : Aim) (d : Station) (n : ℕ) where
   pub record IsProof (b : Budgets) (log : List ℕ) : Type 0 where
     pub lines : List LogLine
     pub rs : List Refutal
-    pub ended_log : IsEndedLog head (refuted d n) vars base lines log
+    pub ended_log : IsEndedLog head (refuted m.base d n) vars base lines log
     pub of_failed_plans : AreOfFailedPlans lines rs
     pub accepted : judged d n log ≡ Yes n
     pub within : IsWithin b (lines ++ Learnt ended_log.last ∷ []) (plans_of rs)

@@ -13,7 +13,7 @@ ghost use Rattle.clause_spec.specs.Laws.{HasFewLiterals};
 use crate::outcome::{Aim, Budgets, Outcome};
 use crate::progress::{Progress, none_before, progress_line};
 use bound_finder::Finder;
-use cone_form::Contention;
+use cone_clause::Contention;
 use interlocking::Interlocking;
 use log_recorder::Text;
 use plan_decoder::decode;
@@ -53,7 +53,7 @@ pub(crate) struct PlanSearch<'a> {
     pub aim: Aim,
     pub numbering: &'a Numbering,
     pub budgets: Budgets,
-    pub ghost numbers: { IsNumberingFor interlocking.now numbering.now },
+    pub ghost numbers: { IsNumberingFor aim.base interlocking.now numbering.now },
     pub ghost at_least_one: { 1 ≤ numbering.now.steps },
     pub ghost at_most_256: { numbering.now.steps ≤ 256 },
     pub ghost fits: { HasFewLiterals (first_clauses aim interlocking.now.design.station numbering.now.steps) },
@@ -122,6 +122,7 @@ impl PlanSearch<'_> {
         };
         let failed = FailedPlan {
             contention,
+            kind: self.aim.base,
             steps: self.numbering.steps(),
             plan,
             values,
@@ -129,7 +130,7 @@ impl PlanSearch<'_> {
             tick,
             violation,
         };
-        failed.exclusion(self.alloc, self.aim.base, finder)
+        failed.exclusion(self.alloc, finder)
     }
 
     /// The search with the clause that excludes a plan that fails at this tick, where the log has room for its line.
@@ -221,7 +222,7 @@ impl PlanSearch<'_> {
         ensures { GoesOn self.now search result }
     {
         let mut search = search;
-        let _steps = self.numbering.counts().steps;
+        let _steps = self.numbering.steps().count;
         search.steps += 1;
         search
     }
@@ -238,7 +239,7 @@ impl PlanSearch<'_> {
         ensures ends { IfErr result (EndsWith self.now) }
         ensures tells { TellsHowFar self.now (P.puts progress.old) (P.puts progress.new) }
     {
-        if core.is_empty() || search.steps == self.numbering.counts().steps {
+        if core.is_empty() || search.steps == self.numbering.steps().count {
             return Err(Outcome::Infeasible {
                 log: log_of(search.solver),
             });
@@ -324,7 +325,7 @@ impl PlanSearch<'_> {
         ensures ends { IfErr result (EndsWith self.now) }
         ensures tells { TellsHowFar self.now (P.puts progress.old) (P.puts progress.new) }
     {
-        let most = self.numbering.counts().steps;
+        let most = self.numbering.steps().count;
         if search.steps < most && search.solver.is_refuted(self.by_step(search.steps)) {
             return Ok(self.longer(search));
         }

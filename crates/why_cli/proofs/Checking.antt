@@ -1,26 +1,23 @@
 -- Answers and those of a check of the same files.
-use Rattle.std.proofs.Common.{◌≡◌, ◌≢◌, ℕ, List, take, drop, Some, None, Result, Ok, Err, refl, ap, sym, ◌∙◌}
+use Rattle.std.proofs.Common.{◌≡◌, ◌≢◌, ℕ, List, take, drop, Option, Some, None, Result, Ok, Err, refl, ap, sym, ◌∙◌}
 use Rattle.infra_reader.specs.Design.{design_of}
 use Rattle.log_checker.specs.declared.check_result.CheckResult.{CheckResult}
 use Rattle.log_checker.specs.declared.check_result.CheckResult.TheVariants.{Yes, No}
-use Rattle.clause_spec.specs.Clauses.{base_clauses, past_limit}
-use Rattle.clause_spec.specs.declared.question.BaseKind.TheVariants.{Plain}
-use Rattle.proof_judge.specs.Judged.{judged}
+use Rattle.proof_judge.specs.Judged.{judged, past_plain}
 use Rattle.proof_words.specs.Explained.{sentences_where_yes}
 use Rattle.proof_words.specs.Meanings.{file_sentences}
 use Rattle.rail_base.specs.declared.station.Station.{Station}
-use Rattle.rail_spec.specs.Track.{routes_of}
 use Rattle.cli_shell.specs.declared.status.Status.TheVariants.{Done}
 use Rattle.cli_shell.specs.declared.input.InputFile.TheVariants as file
 use Rattle.cli_shell.specs.Statuses.{is_verdict}
 use Rattle.proof_shell.specs.Texts.{yes_line}
 use Rattle.cli_shell.specs.Answers.{ReplySeen, one_line, within_limit, with_routes, and_then, design_in, unless_refused}
-use Rattle.proof_shell.specs.Answers.{with_clauses, reply_for, checked_against, with_proof, check_reply}
+use Rattle.proof_shell.specs.Answers.{for_file, reply_for, checked_against, with_proof, check_reply}
 use Rattle.cli_shell.proofs.Deciding.{answered_next}
 use Rattle.cli_shell.proofs.Passing.{passed, long_refuses, design_refuses}
 use Rattle.proof_shell.proofs.Passing.{clauses_refuse}
 use Rattle.cli_shell.proofs.Refusing.{file_is}
-use Rattle.why_cli.specs.Answers.{usage, sentences_or_shown, explained_against, text_explained, steps_in, explained_where, proof_explained, proof_by_head, explanation_reply}
+use Rattle.why_cli.specs.Answers.{usage, sentences_or_shown, explained_against, text_explained, steps_for, steps_in, explained_where, proof_for, explanation_reply}
 use Rattle.why_cli.specs.Laws.{RefusesAsCheck, ExplainsWhereYes, SaysDigests, HeadsNameSteps, NoStepsIsUsage}
 
 -- ---- what a check does not answer with yes
@@ -34,15 +31,15 @@ shown_so : (design proof : List ℕ) (lines : List (List ℕ)) (shown : CheckRes
 shown_so design proof lines (Yes k) other = absurd (other refl)
 shown_so design proof lines (No line reason) other = refl
 
-proof_refused : (design : List ℕ) (n : ℕ) (d : Station) (bytes : List ℕ) → (with_proof n d bytes).status ≢ Done → proof_explained design n d bytes ≡ with_proof n d bytes
+proof_refused : (design : List ℕ) (n : ℕ) (d : Station) (bytes : List ℕ) → (with_proof n d bytes).status ≢ Done → proof_for design (Some n) d bytes ≡ with_proof n d bytes
 proof_refused design n d bytes other =
-    goes_on (with_clauses Plain n d) (λ same. unless_refused (within_limit file.Proof bytes) (explained_against design d n)) (λ same. unless_refused (within_limit file.Proof bytes) (checked_against d n))
-    (λ same. goes_on (within_limit file.Proof bytes) (explained_against design d n) (checked_against d n) (λ text. shown_so design text (file_sentences d text) (judged d n text))) other
+    goes_on (within_limit file.Proof bytes) (text_explained design n d) (λ text. unless_refused (for_file n d text) (λ same. checked_against d n text))
+    (λ text. goes_on (for_file n d text) (λ same. explained_against design d n text) (λ same. checked_against d n text) (λ same. shown_so design text (file_sentences d text) (judged d n text))) other
 
 pub refuses_as_check : RefusesAsCheck
 refuses_as_check n design_bytes proof_bytes other =
-    goes_on (within_limit file.Design design_bytes) (λ text. unless_refused (design_in text) (λ d. proof_explained text n d proof_bytes)) (λ text. unless_refused (design_in text) (λ d. with_proof n d proof_bytes))
-    (λ text. goes_on (design_in text) (λ d. proof_explained text n d proof_bytes) (λ d. with_proof n d proof_bytes) (λ d. proof_refused text n d proof_bytes)) other
+    goes_on (within_limit file.Design design_bytes) (λ text. unless_refused (design_in text) (λ d. proof_for text (Some n) d proof_bytes)) (λ text. unless_refused (design_in text) (λ d. with_proof n d proof_bytes))
+    (λ text. goes_on (design_in text) (λ d. proof_for text (Some n) d proof_bytes) (λ d. with_proof n d proof_bytes) (λ d. proof_refused text n d proof_bytes)) other
 
 -- ---- what it answers with yes
 
@@ -70,12 +67,12 @@ passes n design_bytes proof_bytes done =
     let one = passed (within_limit file.Design design_bytes) (λ text. unless_refused (design_in text) (λ e. with_proof n e proof_bytes)) (long_refuses file.Design design_bytes) (ap is_verdict done) in
     let two = passed (design_in one.read) (λ e. with_proof n e proof_bytes) (design_refuses (and_then (design_of one.read) with_routes)) one.verdict in
     let d = two.read in
-    let three = passed (with_clauses Plain n d) (λ same. unless_refused (within_limit file.Proof proof_bytes) (checked_against d n)) (clauses_refuse d (past_limit 16000000 0 (base_clauses d (routes_of d) n))) two.verdict in
-    let four = passed (within_limit file.Proof proof_bytes) (checked_against d n) (long_refuses file.Proof proof_bytes) three.verdict in
+    let three = passed (within_limit file.Proof proof_bytes) (λ t. unless_refused (for_file n d t) (λ same. checked_against d n t)) (long_refuses file.Proof proof_bytes) two.verdict in
+    let four = passed (for_file n d three.read) (λ same. checked_against d n three.read) (clauses_refuse d (past_plain d n three.read)) three.verdict in
     let text : design_bytes ≡ one.read = file_is file.Design design_bytes one.read one.is in
-    let bytes : proof_bytes ≡ four.read = file_is file.Proof proof_bytes four.read four.is in
-    let all : check_reply n design_bytes proof_bytes ≡ checked_against d n four.read = one.comes ∙ (two.comes ∙ (three.comes ∙ four.comes)) in
-    let shown = shows (judged d n four.read) (ap (λ (a : ReplySeen). a.status) (sym all) ∙ done) in
+    let bytes : proof_bytes ≡ three.read = file_is file.Proof proof_bytes three.read three.is in
+    let all : check_reply n design_bytes proof_bytes ≡ checked_against d n three.read = one.comes ∙ (two.comes ∙ (three.comes ∙ four.comes)) in
+    let shown = shows (judged d n three.read) (ap (λ (a : ReplySeen). a.status) (sym all) ∙ done) in
     record {
       design = d;
       text = one.is ∙ ap (λ (t : List ℕ). Ok t) (sym text);
@@ -84,12 +81,12 @@ passes n design_bytes proof_bytes done =
       is_shown = ap (judged d n) bytes ∙ shown.is;
       is_checked = all ∙ ap reply_for shown.is;
       answer =
-          answered_next (within_limit file.Design design_bytes) one.read (λ t. unless_refused (design_in t) (λ e. proof_explained t n e proof_bytes)) one.is
-          ∙ (answered_next (design_in one.read) d (λ e. proof_explained one.read n e proof_bytes) two.is
-          ∙ (answered_next (with_clauses Plain n d) three.read (λ same. unless_refused (within_limit file.Proof proof_bytes) (explained_against one.read d n)) three.is
-          ∙ (answered_next (within_limit file.Proof proof_bytes) four.read (explained_against one.read d n) four.is
-          ∙ (ap (λ v. sentences_or_shown one.read four.read (sentences_where_yes (file_sentences d four.read) v)) shown.is
-          ∙ (ap (λ (b : List ℕ). sentences_or_shown b four.read (Ok (shown.steps, file_sentences d four.read))) (sym text)
+          answered_next (within_limit file.Design design_bytes) one.read (λ t. unless_refused (design_in t) (λ e. proof_for t (Some n) e proof_bytes)) one.is
+          ∙ (answered_next (design_in one.read) d (λ e. proof_for one.read (Some n) e proof_bytes) two.is
+          ∙ (answered_next (within_limit file.Proof proof_bytes) three.read (text_explained one.read n d) three.is
+          ∙ (answered_next (for_file n d three.read) four.read (λ same. explained_against one.read d n three.read) four.is
+          ∙ (ap (λ v. sentences_or_shown one.read three.read (sentences_where_yes (file_sentences d three.read) v)) shown.is
+          ∙ (ap (λ (b : List ℕ). sentences_or_shown b three.read (Ok (shown.steps, file_sentences d three.read))) (sym text)
           ∙ ap (λ (b : List ℕ). sentences_or_shown design_bytes b (Ok (shown.steps, file_sentences d b))) (sym bytes))))));
     }
 
@@ -119,16 +116,16 @@ shown_status : (design proof : List ℕ) (lines : List (List ℕ)) (shown : Chec
 shown_status design proof lines (Yes k) = refl
 shown_status design proof lines (No line reason) = refl
 
-proof_status : (design : List ℕ) (n : ℕ) (d : Station) (bytes : List ℕ) → (proof_explained design n d bytes).status ≡ (with_proof n d bytes).status
+proof_status : (design : List ℕ) (n : ℕ) (d : Station) (bytes : List ℕ) → (proof_for design (Some n) d bytes).status ≡ (with_proof n d bytes).status
 proof_status design n d bytes =
-    same_status (with_clauses Plain n d) (λ same. unless_refused (within_limit file.Proof bytes) (explained_against design d n)) (λ same. unless_refused (within_limit file.Proof bytes) (checked_against d n))
-    (λ same. same_status (within_limit file.Proof bytes) (explained_against design d n) (checked_against d n) (λ text. shown_status design text (file_sentences d text) (judged d n text)))
+    same_status (within_limit file.Proof bytes) (text_explained design n d) (λ text. unless_refused (for_file n d text) (λ same. checked_against d n text))
+    (λ text. same_status (for_file n d text) (λ same. explained_against design d n text) (λ same. checked_against d n text) (λ same. shown_status design text (file_sentences d text) (judged d n text)))
 
 -- it is that of a check
 pub status_as_check : (n : ℕ) (design_bytes proof_bytes : List ℕ) → (explanation_reply (Some n) design_bytes proof_bytes).status ≡ (check_reply n design_bytes proof_bytes).status
 status_as_check n design_bytes proof_bytes =
-    same_status (within_limit file.Design design_bytes) (λ text. unless_refused (design_in text) (λ d. proof_explained text n d proof_bytes)) (λ text. unless_refused (design_in text) (λ d. with_proof n d proof_bytes))
-    (λ text. same_status (design_in text) (λ d. proof_explained text n d proof_bytes) (λ d. with_proof n d proof_bytes) (λ d. proof_status text n d proof_bytes))
+    same_status (within_limit file.Design design_bytes) (λ text. unless_refused (design_in text) (λ d. proof_for text (Some n) d proof_bytes)) (λ text. unless_refused (design_in text) (λ d. with_proof n d proof_bytes))
+    (λ text. same_status (design_in text) (λ d. proof_for text (Some n) d proof_bytes) (λ d. with_proof n d proof_bytes) (λ d. proof_status text n d proof_bytes))
 
 -- ---- steps that the head names
 
@@ -137,25 +134,21 @@ after_both (Ok x) f g h = h x
 after_both (Err a) f g h = refl
 
 module _ (design : List ℕ) (bytes : List ℕ) (fits : within_limit file.Proof bytes ≡ Ok bytes) (d : Station) where
-  by_head : proof_by_head design d bytes ≡ explained_where design (steps_in bytes) d bytes
-  by_head = answered_next (within_limit file.Proof bytes) bytes (λ text. explained_where design (steps_in text) d text) fits
+  read_so : (steps : Option ℕ) → proof_for design steps d bytes ≡ explained_where design (steps_for steps bytes) d bytes
+  read_so steps = answered_next (within_limit file.Proof bytes) bytes (λ text. explained_where design (steps_for steps text) d text) fits
 
-  given : (n : ℕ) → proof_explained design n d bytes ≡ text_explained design n d bytes
-  given n = after_both (with_clauses Plain n d) (λ same. unless_refused (within_limit file.Proof bytes) (explained_against design d n)) (λ same. explained_against design d n bytes)
-      (λ same. answered_next (within_limit file.Proof bytes) bytes (explained_against design d n) fits)
+  pub as_given : (n : ℕ) → steps_in bytes ≡ Some n → proof_for design None d bytes ≡ proof_for design (Some n) d bytes
+  as_given n named = read_so None ∙ (ap (λ s. explained_where design s d bytes) named ∙ sym (read_so (Some n)))
 
-  pub as_given : (n : ℕ) → steps_in bytes ≡ Some n → proof_by_head design d bytes ≡ proof_explained design n d bytes
-  as_given n named = by_head ∙ (ap (λ s. explained_where design s d bytes) named ∙ sym (given n))
-
-  pub not_named : steps_in bytes ≡ None → proof_by_head design d bytes ≡ usage
-  not_named none = by_head ∙ ap (λ s. explained_where design s d bytes) none
+  pub not_named : steps_in bytes ≡ None → proof_for design None d bytes ≡ usage
+  not_named none = read_so None ∙ ap (λ s. explained_where design s d bytes) none
 
 pub heads_name_steps : HeadsNameSteps
 heads_name_steps n design_bytes proof_bytes fits named =
-    after_both (within_limit file.Design design_bytes) (λ text. unless_refused (design_in text) (λ d. proof_by_head text d proof_bytes)) (λ text. unless_refused (design_in text) (λ d. proof_explained text n d proof_bytes))
-    (λ text. after_both (design_in text) (λ d. proof_by_head text d proof_bytes) (λ d. proof_explained text n d proof_bytes) (λ d. as_given text proof_bytes fits d n named))
+    after_both (within_limit file.Design design_bytes) (λ text. unless_refused (design_in text) (λ d. proof_for text None d proof_bytes)) (λ text. unless_refused (design_in text) (λ d. proof_for text (Some n) d proof_bytes))
+    (λ text. after_both (design_in text) (λ d. proof_for text None d proof_bytes) (λ d. proof_for text (Some n) d proof_bytes) (λ d. as_given text proof_bytes fits d n named))
 
 pub no_steps_is_usage : NoStepsIsUsage
 no_steps_is_usage design_bytes proof_bytes d short reads fits none =
-    answered_next (within_limit file.Design design_bytes) design_bytes (λ t. unless_refused (design_in t) (λ e. proof_by_head t e proof_bytes)) short
-    ∙ (answered_next (design_in design_bytes) d (λ e. proof_by_head design_bytes e proof_bytes) reads ∙ not_named design_bytes proof_bytes fits d none)
+    answered_next (within_limit file.Design design_bytes) design_bytes (λ t. unless_refused (design_in t) (λ e. proof_for t None e proof_bytes)) short
+    ∙ (answered_next (design_in design_bytes) d (λ e. proof_for design_bytes None e proof_bytes) reads ∙ not_named design_bytes proof_bytes fits d none)

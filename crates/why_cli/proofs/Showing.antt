@@ -35,7 +35,7 @@ use Rattle.rail_words.specs.Requests as requests
 use Rattle.rail_words.proofs.Ranges.{requests_in_range}
 use Rattle.why_words.specs.Wanted.{Wanted, AreStepsInRange, names_alone, check_words, by_check, of_design, or_else, wanted_of, words_with_proof}
 use Rattle.why_cli.specs.Heads.{head_lines}
-use Rattle.why_cli.specs.Answers.{if_in_range, steps_named, steps_in, steps_for, explained_where, proof_by_head, explanation_reply}
+use Rattle.why_cli.specs.Answers.{if_in_range, steps_named, steps_in, steps_for, explained_where, proof_for, explanation_reply}
 use Rattle.why_cli.specs.Plans.{is_plan}
 use Rattle.named_files.specs.Replies.{IsHeld, names_of}
 use Rattle.named_files.proofs.Printing.{answered}
@@ -109,8 +109,8 @@ where_some design (Some n) d text verdict = (n, refl)
 
 names : (design_bytes proof_bytes : List ℕ) → (explanation_reply None design_bytes proof_bytes).status ≡ Done → Names proof_bytes
 names design_bytes proof_bytes done =
-    let one = passed (within_limit file.Design design_bytes) (λ text. unless_refused (design_in text) (λ e. proof_by_head text e proof_bytes)) (long_refuses file.Design design_bytes) (ap is_verdict done) in
-    let two = passed (design_in one.read) (λ e. proof_by_head one.read e proof_bytes) (design_refuses (and_then (design_of one.read) with_routes)) one.verdict in
+    let one = passed (within_limit file.Design design_bytes) (λ text. unless_refused (design_in text) (λ e. proof_for text None e proof_bytes)) (long_refuses file.Design design_bytes) (ap is_verdict done) in
+    let two = passed (design_in one.read) (λ e. proof_for one.read None e proof_bytes) (design_refuses (and_then (design_of one.read) with_routes)) one.verdict in
     let three = passed (within_limit file.Proof proof_bytes) (λ text. explained_where one.read (steps_in text) two.read text) (long_refuses file.Proof proof_bytes) two.verdict in
     let same : proof_bytes ≡ three.read = file_is file.Proof proof_bytes three.read three.is in
     let some = where_some one.read (steps_in three.read) two.read three.read three.verdict in

@@ -12,16 +12,16 @@ use Rattle.cli_shell.specs.declared.status.Status.TheVariants.{Usage}
 use Rattle.cli_shell.specs.declared.input.InputFile.TheVariants as file
 use Rattle.cli_shell.specs.Statuses.{is_answered}
 use Rattle.cli_shell.specs.Answers.{ReplySeen, and_then, within_limit, design_in, unless_refused, verdict_status, with_routes}
-use Rattle.proof_shell.specs.Answers.{with_clauses}
+use Rattle.proof_shell.specs.Answers.{for_file, with_clauses}
 use Rattle.cli_shell.proofs.Using.{IsNoUsage, long_is_no_usage, design_is_no_usage}
-use Rattle.proof_shell.proofs.Using.{clauses_are_no_usage}
+use Rattle.proof_shell.proofs.Using.{clauses_are_no_usage, files_are_no_usage}
 use Rattle.why_words.specs.Wanted.{Wanted}
 use Rattle.design_table.specs.declared.fault.Code.{Code}
 use Rattle.design_table.specs.declared.place.Place.{Place}
 use Rattle.infra_reader.specs.Design.{design_of}
 use Rattle.rail_outside.specs.Files.{Files}
 use Rattle.named_files.specs.Replies.{Answers, names_of}
-use Rattle.why_cli.specs.Answers.{sentences_or_shown, explained_against, proof_explained, proof_for, explanation_reply}
+use Rattle.why_cli.specs.Answers.{sentences_or_shown, explained_against, text_explained, proof_for, explanation_reply}
 use Rattle.why_cli.specs.Designs.{IsClausesSaid, IsDesignAnswer, IsDesignSaid, IsReadSaid, IsSaidForSteps, IsTextSaid}
 use Rattle.why_cli.specs.Plans.{IsPlanAnswer, IsPlanFileAnswer, IsPlanSaid, IsReadPlanSaid, is_plan}
 use Rattle.why_cli.specs.Replies.{IsAnswerOf, IsAnswerTo, IsBothAnswer, IsFileAnswer, IsOfKind, IsTextAnswer, PrintsAnswer, design_name, file_name}
@@ -45,10 +45,10 @@ shown_other : (design proof : List ℕ) (lines : List (List ℕ)) (shown : Check
 shown_other design proof lines (Yes k) is = absurd (cc)
 shown_other design proof lines (No line reason) is = absurd (cc)
 
-proof_other : (design : List ℕ) (n : ℕ) (d : Station) (bytes : List ℕ) → (proof_explained design n d bytes).status ≡ Usage → ⊥
+proof_other : (design : List ℕ) (n : ℕ) (d : Station) (bytes : List ℕ) → (proof_for design (Some n) d bytes).status ≡ Usage → ⊥
 proof_other design n d bytes =
-    goes_on (with_clauses Plain n d) (λ same. unless_refused (within_limit file.Proof bytes) (explained_against design d n)) (clauses_are_no_usage n d)
-    (λ same. goes_on (within_limit file.Proof bytes) (explained_against design d n) (long_is_no_usage file.Proof bytes) (λ text. shown_other design text (file_sentences d text) (judged d n text)))
+    goes_on (within_limit file.Proof bytes) (text_explained design n d) (long_is_no_usage file.Proof bytes)
+    (λ text. goes_on (for_file n d text) (λ same. explained_against design d n text) (files_are_no_usage n d text) (λ same. shown_other design text (file_sentences d text) (judged d n text)))
 
 -- ---- answers on a design alone
 
@@ -94,7 +94,7 @@ file_other d bytes a so is =
 -- ---- answers on a file
 
 kind_other : (plan : Bool) (design : List ℕ) (n : ℕ) (d : Station) (bytes : List ℕ) (a : ReplySeen) → IsOfKind plan design (Some n) d bytes a → a.status ≡ Usage → ⊥
-kind_other true design n d bytes a so is = answers_other (with_clauses Plain n d) (λ same. IsPlanFileAnswer d bytes) a (clauses_are_no_usage n d) (λ same. file_other d bytes a) so is
+kind_other true design n d bytes a so is = file_other d bytes a so is
 kind_other false design n d bytes a so is = proof_other design n d bytes (ap (λ (b : ReplySeen). b.status) (sym so) ∙ is)
 
 both_other : (n : ℕ) (design_bytes bytes : List ℕ) (a : ReplySeen) → IsBothAnswer (Some n) design_bytes bytes a → a.status ≡ Usage → ⊥

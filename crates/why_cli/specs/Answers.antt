@@ -4,7 +4,6 @@ use Rattle.std.specs.Prelude.{ℕ, ◌&&◌, nat_le, if◌then◌else◌, List, 
 use Rattle.std.specs.Prelude.{Option, Some, None, Result, Ok, Err}
 use Rattle.log_checker.specs.declared.check_result.CheckResult.{CheckResult}
 use Rattle.log_checker.specs.Verdict.{head_in}
-use Rattle.clause_spec.specs.declared.question.BaseKind.TheVariants.{Plain}
 use Rattle.proof_log.specs.declared.head.Head.{Head}
 use Rattle.proof_log.specs.declared.head.Head.TheVariants.{Unnamed, Of}
 use Rattle.proof_words.specs.Explained.{explained_of}
@@ -12,7 +11,7 @@ use Rattle.rail_base.specs.declared.station.Station.{Station}
 use Rattle.cli_shell.specs.declared.status.Status.TheVariants.{Done, Usage}
 use Rattle.cli_shell.specs.declared.input.InputFile.TheVariants as file
 use Rattle.cli_shell.specs.Answers.{ReplySeen, one_line, within_limit, design_in, unless_refused}
-use Rattle.proof_shell.specs.Answers.{with_clauses, reply_for}
+use Rattle.proof_shell.specs.Answers.{for_file, reply_for}
 use Rattle.rail_text.specs.Pieces.{pieces}
 use Rattle.why_cli.specs.Heads.{head_lines}
 
@@ -35,9 +34,9 @@ sentences_or_shown design proof (Err shown) = reply_for shown
 abbrev pub explained_against : List ℕ → Station → ℕ → List ℕ → ReplySeen
 explained_against design d n text = sentences_or_shown design text (explained_of d n text)
 
--- the same, where the clauses of the design are few
+-- the same, where the design has few clauses for the file
 abbrev pub text_explained : List ℕ → ℕ → Station → List ℕ → ReplySeen
-text_explained design n d text = unless_refused (with_clauses Plain n d) (λ same. explained_against design d n text)
+text_explained design n d text = unless_refused (for_file n d text) (λ same. explained_against design d n text)
 
 -- ---- how many steps
 
@@ -62,29 +61,16 @@ steps_for None text = steps_in text
 
 -- ---- answers
 
--- the answer for a design and n steps whose clauses are few, for the bytes of the proof
-abbrev pub base_explained : List ℕ → ℕ → Station → List ℕ → ReplySeen
-base_explained design n d proof_bytes = unless_refused (within_limit file.Proof proof_bytes) (explained_against design d n)
-
--- the answer for a design and n steps, for the bytes of the proof
-abbrev pub proof_explained : List ℕ → ℕ → Station → List ℕ → ReplySeen
-proof_explained design n d proof_bytes =
-    unless_refused (with_clauses Plain n d) (λ same. base_explained design n d proof_bytes)
-
 -- the answer for the text of a proof and as many steps as are named, if any are
 abbrev pub explained_where : List ℕ → Option ℕ → Station → List ℕ → ReplySeen
 explained_where design (Some n) d text = text_explained design n d text
 explained_where design None d text = usage
 
--- the answer for a design and as many steps as the head of the proof names, for the bytes of the proof
-abbrev pub proof_by_head : List ℕ → Station → List ℕ → ReplySeen
-proof_by_head design d proof_bytes =
-    unless_refused (within_limit file.Proof proof_bytes) (λ text. explained_where design (steps_in text) d text)
-
--- the answer for a design and the steps that are given, or else as many as the head of the proof names
+-- the answer for a design and the steps that are given, or else as many as the head of the proof names, for the bytes
+-- of the proof
 abbrev pub proof_for : List ℕ → Option ℕ → Station → List ℕ → ReplySeen
-proof_for design (Some n) d proof_bytes = proof_explained design n d proof_bytes
-proof_for design None d proof_bytes = proof_by_head design d proof_bytes
+proof_for design steps d proof_bytes =
+    unless_refused (within_limit file.Proof proof_bytes) (λ text. explained_where design (steps_for steps text) d text)
 
 -- the same, for the bytes of the design and of the proof
 abbrev pub explanation_reply : Option ℕ → List ℕ → List ℕ → ReplySeen

@@ -1,16 +1,14 @@
 -- What is said of a plan.
-use Rattle.std.specs.Prelude.{◌≡◌, ◌==◌, ◌||◌, not, ℕ, Bool, false, List, [], ◌∷◌, ◌++◌, take, Option, None, Some, Result, Ok, Err}
+use Rattle.std.specs.Prelude.{◌≡◌, ◌==◌, ◌||◌, not, ℕ, Bool, false, List, [], ◌∷◌, ◌++◌, take, Result, Ok, Err}
 use Rattle.named_files.specs.Replies.{Answers}
 use Rattle.outcome_words.specs.Outcome.{outcome_lines}
 use Rattle.plan_fault_words.specs.Faults.{SaysRefused}
-use Rattle.clause_spec.specs.declared.question.BaseKind.TheVariants.{Plain}
 use Rattle.rail_base.specs.declared.plan.Command.{Command}
 use Rattle.rail_base.specs.declared.station.Station.{Station}
 use Rattle.rail_base.specs.Numbering.{from_first}
 use Rattle.cli_shell.specs.declared.status.Status.TheVariants.{PlanRefused}
 use Rattle.cli_shell.specs.declared.input.InputFile.TheVariants as file
 use Rattle.cli_shell.specs.Answers.{ReplySeen, verdict_status, within_limit}
-use Rattle.proof_shell.specs.Answers.{with_clauses}
 use Rattle.cli_shell.specs.Shows.{verdict_at_horizon}
 use Rattle.cli_shell.specs.Texts.{plan_refused_line}
 use Rattle.rail_plan.specs.declared.fault.PlanCode.{PlanCode}
@@ -66,8 +64,3 @@ IsPlanAnswer d text a = Answers (within_limit file.Plan text) (IsPlanSaid d) a
 -- for the bytes of the file
 abbrev pub IsPlanFileAnswer : Station → List ℕ → ReplySeen → Type 0
 IsPlanFileAnswer d bytes a = Answers (within_limit file.Proof bytes) (IsPlanAnswer d) a
-
--- where steps are given, so many clauses have to be few
-abbrev pub IsPlanForSteps : Option ℕ → Station → List ℕ → ReplySeen → Type 0
-IsPlanForSteps None d bytes a = IsPlanFileAnswer d bytes a
-IsPlanForSteps (Some n) d bytes a = Answers (with_clauses Plain n d) (λ same. IsPlanFileAnswer d bytes) a

@@ -11,33 +11,20 @@ use Rattle.rail_outside.specs.Files.{Files}
 use Rattle.rail_words.specs.Words.{texts_of}
 use Rattle.why_words.specs.Wanted.{Wanted, check_words, wanted_of, words_with_proof}
 use Rattle.why_cli.specs.declared.run.CheckWords.{CheckWords}
-use Rattle.why_cli.specs.Answers.{base_explained, explained_against, proof_for, usage}
+use Rattle.why_cli.specs.Answers.{proof_for, usage}
 use Rattle.why_cli.specs.Designs.{IsDesignAnswer}
-use Rattle.why_cli.specs.Plans.{IsPlanAnswer, IsPlanFileAnswer, IsPlanForSteps, is_plan}
+use Rattle.why_cli.specs.Plans.{IsPlanFileAnswer, is_plan}
 
 -- ---- answers
 
 -- for the bytes of a file that is a plan, or a proof
 abbrev pub IsOfKind : Bool → List ℕ → Option ℕ → Station → List ℕ → ReplySeen → Type 0
-IsOfKind true design steps d bytes a = IsPlanForSteps steps d bytes a
+IsOfKind true design steps d bytes a = IsPlanFileAnswer d bytes a
 IsOfKind false design steps d bytes a = a ≡ proof_for design steps d bytes
 
 -- by its bytes
 abbrev pub IsFileAnswer : List ℕ → Option ℕ → Station → List ℕ → ReplySeen → Type 0
 IsFileAnswer design steps d bytes a = IsOfKind (is_plan bytes) design steps d bytes a
-
--- the same, where the clauses for n steps are few
-abbrev pub IsOfBaseKind : Bool → List ℕ → ℕ → Station → List ℕ → ReplySeen → Type 0
-IsOfBaseKind true design n d bytes a = IsPlanFileAnswer d bytes a
-IsOfBaseKind false design n d bytes a = a ≡ base_explained design n d bytes
-
-abbrev pub IsBaseAnswer : List ℕ → ℕ → Station → List ℕ → ReplySeen → Type 0
-IsBaseAnswer design n d bytes a = IsOfBaseKind (is_plan bytes) design n d bytes a
-
--- the same for a text that is no longer than a proof may be
-abbrev pub IsBaseText : Bool → List ℕ → ℕ → Station → List ℕ → ReplySeen → Type 0
-IsBaseText true design n d text a = IsPlanAnswer d text a
-IsBaseText false design n d text a = a ≡ explained_against design d n text
 
 -- for the text of a design and the bytes of a file
 abbrev pub IsTextAnswer : Option ℕ → List ℕ → List ℕ → ReplySeen → Type 0

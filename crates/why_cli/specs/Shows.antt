@@ -2,7 +2,6 @@
 use Rattle.std.specs.Prelude.{◌≡◌, ℕ, ◌≤◌, false, List, ◌++◌, length, Option, Some, None, Ok}
 use Rattle.std.specs.List.{concat}
 use Rattle.infra_reader.specs.Design.{design_of}
-use Rattle.clause_spec.specs.declared.question.BaseKind.TheVariants.{Plain}
 use Rattle.proof_words.specs.Denied.{EachLineDenies}
 use Rattle.proof_words.specs.Meanings.{file_sentences}
 use Rattle.rail_base.specs.declared.station.Station.{Station}
@@ -14,7 +13,7 @@ use Rattle.proof_shell.specs.Answers.{check_reply}
 use Rattle.cli_shell.specs.Texts.{limit_of}
 use Rattle.proof_shell.specs.Texts.{yes_line}
 use Rattle.cli_shell.specs.Verdicts.{IsDesignText}
-use Rattle.proof_shell.specs.Verdicts.{HasFewClauses}
+use Rattle.proof_shell.specs.Verdicts.{HasFewFor}
 use Rattle.rail_outside.specs.Files.{Files}
 use Rattle.rail_outside.specs.Growth.{grown}
 use Rattle.rail_spec.specs.Feasible.{IsInfeasible}
@@ -57,7 +56,7 @@ pub record IsUsageFor (wanted : Option Wanted) (s : Status) : Type 0 where
   pub cause : s ≡ Usage → GivesNoSteps wanted
 
 -- the words ask for that of a proof, and nothing is refused: the files are within their limits, one spells a design, the steps are
--- given or named by the head of the proof, and the clauses for so many are few
+-- given or named by the head of the proof, and the design has few clauses for it
 pub record IsUnrefused (files : Files) (words : List (List ℕ)) : Type 0 where
   pub wanted : Wanted
   pub asked : wanted_of words ≡ Some wanted
@@ -69,4 +68,4 @@ pub record IsUnrefused (files : Files) (words : List (List ℕ)) : Type 0 where
   pub within_limit : length (files proof) ≤ limit_of file.Proof
   pub steps : ℕ
   pub are_steps : steps_for wanted.steps (files proof) ≡ Some steps
-  pub has_few_clauses : HasFewClauses Plain design steps
+  pub has_few_clauses : HasFewFor design steps (files proof)

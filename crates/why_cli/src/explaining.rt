@@ -1,22 +1,22 @@
 //! What is said of a proof, by its text.
 
-ghost use Rattle.std.specs.Prelude.{◌≡◌, ◌≢◌, [], Err, false};
+ghost use Rattle.std.specs.Prelude.{◌≡◌, ◌≢◌, [], Err, IfOk, false};
 ghost use Rattle.named_files.specs.Replies.{Makes, is_unread};
-ghost use Rattle.clause_spec.specs.declared.question.BaseKind.TheVariants.{Plain};
-ghost use Rattle.plan_encoding.specs.Bases.{IsBaseOf};
-ghost use Rattle.cli_shell.specs.Replies.{Replies, RepliesWith};
+ghost use Rattle.proof_words.specs.Explained.{explained_of, sentences_or};
+ghost use Rattle.cli_shell.specs.Replies.{OnlyRefuses, ReadsOrEnds, Replies, RepliesWith};
+ghost use Rattle.proof_shell.specs.Answers.{for_file};
 ghost use Rattle.why_words.specs.Wanted.{AreStepsInRange};
-ghost use Rattle.why_cli.specs.Answers.{explained_against, explained_where, if_in_range, steps_in, steps_named};
+ghost use Rattle.why_cli.specs.Answers.{explained_where, if_in_range, sentences_or_shown, steps_for, steps_named};
 ghost use Rattle.why_cli.specs.Answers.{text_explained, usage};
 
 use crate::heads::head_lines;
-use cli_shell::{Ending, Reply, Status, one_line};
+use cli_shell::{Ending, Reply, Status, ending_of, one_line, too_large};
 use interlocking::{Interlocking, Steps};
 use log_checker::head_in;
 use named_files::Unmade;
-use plan_encoding::Base;
+use plan_encoding::BaseFault;
 use proof_log::Head;
-use proof_shell::{encode, make_reply};
+use proof_shell::make_reply;
 use proof_words::{Explained, explain};
 use std::alloc::{AllocError, Global};
 
@@ -40,20 +40,15 @@ pub(crate) fn usage_made<'a>(alloc: Global) -> Result<Reply, Unmade<'a>>
     Ok(reply)
 }
 
-/// What the text of a proof says of a design, in sentences where it shows that there is no plan.
-pub(crate) fn reply_for(
+/// What a proof says of a design, by the texts of both: in sentences where it shows that there is no plan.
+fn reply_for(
     alloc: Global,
     design_text: &[u8],
-    interlocking: &Interlocking,
-    base: Base,
     text: &[u8],
+    said: Explained,
 ) -> Result<Reply, AllocError>
-    requires { let i = interlocking.now in
-        IsBaseOf Plain i.design.station i.routes base.numbering.steps base }
-    ensures { RepliesWith result
-        (explained_against design_text.now interlocking.now.design.station base.numbering.steps text.now) }
+    ensures { RepliesWith result (sentences_or_shown design_text.now text.now (sentences_or said)) }
 {
-    let said = explain(alloc, interlocking, base, text)?;
     match said {
         Explained::Sentences { steps, mut lines } => {
             let mut all = head_lines(alloc, design_text, text, steps)?;
@@ -91,6 +86,27 @@ fn steps_named(head: Option<Head>) -> Option<u32>
     }
 }
 
+/// What the text of a proof says of a design. The ending says that the design has too many clauses for it, or is want of
+/// memory.
+fn said_of(
+    alloc: Global,
+    interlocking: &Interlocking,
+    steps: Steps,
+    text: &[u8],
+) -> Result<Explained, Ending>
+    ensures reads { let d = interlocking.now.design.station in
+        ReadsOrEnds (λ _. d) result (for_file steps.count d text.now) }
+    ensures refuses { OnlyRefuses result }
+    ensures said { let d = interlocking.now.design.station in
+        IfOk result (λ said. sentences_or said ≡ explained_of d steps.count text.now) }
+{
+    match explain(alloc, interlocking, steps, text) {
+        Ok(said) => Ok(said),
+        Err(BaseFault::TooLarge { .. }) => Err(ending_of(too_large(alloc))),
+        Err(BaseFault::Memory) => Err(Ending::Memory),
+    }
+}
+
 /// The reply for a number of steps, by the text of the proof.
 fn text_explained(
     alloc: Global,
@@ -103,23 +119,25 @@ fn text_explained(
         (text_explained design_text.now steps.count interlocking.now.design.station text.now) }
     ensures no_fault { result ≢ Err Ending.ShelfFault }
 {
-    let base = encode(alloc, interlocking, steps)?;
-    let reply = reply_for(alloc, design_text, interlocking, base, text)?;
+    let said = said_of(alloc, interlocking, steps, text)?;
+    let reply = reply_for(alloc, design_text, text, said)?;
     Ok(reply)
 }
 
-/// The reply for as many steps as the head of the proof names, by its text.
-pub(crate) fn text_by_head(
+/// The reply for the steps that are given, or else as many as the head of the proof names, by its text.
+pub(crate) fn text_reply(
     alloc: Global,
     design_text: &[u8],
     interlocking: &Interlocking,
+    steps: Option<u32>,
     text: &[u8],
 ) -> Result<Reply, Ending>
+    requires { AreStepsInRange steps }
     ensures replies { let d = interlocking.now.design.station in
-        Replies result (explained_where design_text.now (steps_in text.now) d text.now) }
+        Replies result (explained_where design_text.now (steps_for steps text.now) d text.now) }
     ensures no_fault { result ≢ Err Ending.ShelfFault }
 {
-    match steps_named(head_in(text)) {
+    match steps.or(steps_named(head_in(text))) {
         Some(count) => text_explained(alloc, design_text, interlocking, Steps { count }, text),
         None => {
             let reply = usage(alloc)?;

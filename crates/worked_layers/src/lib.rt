@@ -176,7 +176,8 @@ fn kind_of(name: &str) -> Result<BaseKind> {
     match name {
         "sorted" => Ok(BaseKind::Sorted),
         "normal" => Ok(BaseKind::Normal),
-        _ => bail!("a base is sorted or normal"),
+        "live" => Ok(BaseKind::Live),
+        _ => bail!("a base is sorted, normal or live"),
     }
 }
 

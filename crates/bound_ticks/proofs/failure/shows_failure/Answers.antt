@@ -8,12 +8,12 @@ use Rattle.bound_ticks.proofs.failure.shows_failure.Goals as goal
 
 pub stretches_of-requires : goal.stretches_of-requires
 stretches_of-requires c =
-    let i = c.args.contention.now.interlocking.now in
+    let i = c.args.interlocking.now in
     subst (All (IsLeg i)) (sym c.as_slice.ensures) (is_named i c.args.bound.now c.requires.names).legs
 
 pub invariant_of-claim : goal.invariant_of-claim
 invariant_of-claim c =
-    let i = c.args.contention.now.interlocking.now in
+    let i = c.args.interlocking.now in
     let d = i.design.station in
     let few : c.in_ok-stretches.stretches ≤ 33554432 = (let f = c.if-stretches-gt-MOST_LOOKS.false in omega arith) in
     let same = exact c.in_ok-stretches.stretches (stretches_of d i.routes c.args.bound.now.legs) (c.in_ok-stretches.ensures ∙ ap (λ ls. cap (stretches_of d i.routes ls)) c.as_slice.ensures) few in

@@ -1,18 +1,26 @@
-use Rattle.std.proofs.Common.{Bool, Vec, Global, List, map, ap, ap₂, ◌∙◌}
+use Rattle.std.proofs.Common.{Bool, Vec, Global, List, map, sym, ap, subst, ◌∙◌}
 use Rattle.std.specs.List.{list_all}
 use Rattle.rail_base.specs.declared.plan.Command.{Command}
-use Rattle.clause_spec.specs.Variables.{pairs}
-use Rattle.cone_form.specs.Marks.{marked_pair}
-use Rattle.cone_form.proofs.Contending.{pairs_are}
+use Rattle.cone_form.specs.Marks.{MarkRoutes, marked_pair}
+use Rattle.cone_form.proofs.Contending.{pairs_are, routes_marked}
 use Rattle.cone_form.proofs.trains.pairs_in_design.Goals as goal
 
+items : Vec Bool Global → List Bool
+items row = row.items
+
+pub are_pairs-requires : goal.are_pairs-requires
+unfolding items
+are_pairs-requires c =
+    let i = c.args.interlocking.now in
+    subst (λ (rs : List (Vec Bool Global)). MarkRoutes i.routes (map items rs)) (sym c.as_slice.ensures.value)
+    (routes_marked i.design.station i.routes c.args.cone.now c.requires (map items c.in_ok-rows.rows.items) c.in_ok-rows.ensures)
+
 pub returns : goal.returns
+unfolding items
 returns c =
-    let items : Vec Bool Global → List Bool = λ row. row.items in
+    let i = c.args.interlocking.now in
     let rows : List (Vec Bool Global) = c.in_ok-rows.rows.items in
-    let d = c.args.contention.now.interlocking.now.design.station in
-    let routes = c.args.contention.now.interlocking.now.routes in
     c.are_pairs.ensures
-    ∙ (ap₂ (λ (rs : List (Vec Bool Global)) (ps : List (Command × Command)). list_all (marked_pair (map items rs) ps) c.as_slice-2.result.now) c.as_slice.ensures.value c.args.contention.now.ordered
-    ∙ (ap (λ (ps : List (Command × Command)). list_all (marked_pair (map items rows) (pairs d routes)) ps) c.as_slice-2.ensures
-    ∙ pairs_are d routes c.args.cone.now c.requires (map items rows) c.in_ok-rows.ensures c.args.cone.now.pairs))
+    ∙ (ap (λ (rs : List (Vec Bool Global)). list_all (marked_pair i.routes (map items rs)) c.as_slice-2.result.now) c.as_slice.ensures.value
+    ∙ (ap (λ (ps : List (Command × Command)). list_all (marked_pair i.routes (map items rows)) ps) c.as_slice-2.ensures
+    ∙ pairs_are i.design.station i.routes c.args.cone.now c.requires (map items rows) c.in_ok-rows.ensures c.args.cone.now.pairs))

@@ -8,15 +8,15 @@ invariant_of-layout c = record { known = sym c.in_ok-fits.ensures ∙ c.if-not-f
 
 pub returns-then-not-fits-clause-stands : goal.returns-then-not-fits-clause-stands
 returns-then-not-fits-clause-stands c = λ known.
-    let i = c.args.contention.now.interlocking.now in
+    let i = c.args.interlocking.now in
     stands i.design.station i.routes c.args.cone.now known (admitted i.design.station i.design.admitted) i.table
 
 pub returns-clause-stands : goal.returns-clause-stands
 returns-clause-stands c = λ known.
-    let i = c.args.contention.now.interlocking.now in
+    let i = c.args.interlocking.now in
     stands i.design.station i.routes c.args.cone.now known (admitted i.design.station i.design.admitted) i.table
 
 pub returns-in_err-fits-clause-stands : goal.returns-in_err-fits-clause-stands
 returns-in_err-fits-clause-stands c = λ known.
-    let i = c.args.contention.now.interlocking.now in
+    let i = c.args.interlocking.now in
     stands i.design.station i.routes c.args.cone.now known (admitted i.design.station i.design.admitted) i.table

@@ -1,7 +1,7 @@
 use Rattle.rail_base.specs.declared.plan.Command.{Command}
 use Rattle.rail_base.specs.declared.route.RouteNo.{RouteNo}
 use Rattle.std.proofs.lemmas.List.{drop_more}
-use Rattle.contending.proofs.Gathering.{push_next}
+use Rattle.command_set.proofs.Gathering.{push_next}
 use Rattle.plan_encoding.proofs.kept.add_commands.Goals as goal
 
 pub loop-route-preserved : goal.loop-route-preserved

@@ -1,5 +1,4 @@
-use Rattle.rail_course.proofs.Lawful.{apart, keeps, stands, granted}
-use Rattle.plan_run.proofs.Kept.{free}
+use Rattle.rail_course.proofs.Lawful.{apart, free, keeps, stands, granted}
 use Rattle.plan_run.proofs.verdicts.simulate.Goals as goal
 
 pub returns-clause-keeps : goal.returns-clause-keeps

@@ -41,23 +41,3 @@ returns-clause-routes c =
       c.new-3.ensures,
       c.new-4.ensures,
     ) refl
-
-pub returns-clause-pairs : goal.returns-clause-pairs
-returns-clause-pairs c =
-    simp (
-      c.in_ok-west.ensures,
-      c.in_ok-east.ensures,
-      c.in_ok-nodes.ensures,
-      c.in_ok-edge.ensures,
-      c.in_ok-edges.ensures,
-      c.in_ok-section.ensures,
-      c.in_ok-sections.ensures,
-      c.in_ok-vehicle.ensures,
-      c.in_ok-vehicles.ensures,
-      c.in_ok-train.ensures,
-      c.in_ok-trains.ensures,
-      c.new.ensures,
-      c.new-2.ensures,
-      c.new-3.ensures,
-      c.new-4.ensures,
-    ) refl

@@ -1,6 +1,6 @@
-use Rattle.std.proofs.Common.{List, sym, ap, ◌∙◌}
-use Rattle.cone_spec.specs.Clauses.{Literal}
-use Rattle.bound_clause.specs.Spoken.{station_of, routes_in, numbered}
+use Rattle.std.proofs.Common.{List, Some, ap, sym, ◌∙◌}
+use Rattle.sat_clause.specs.declared.lit.Lit.{Lit}
+use Rattle.bound_clause.specs.Spoken.{left, routes_in, station_of}
 use Rattle.bound_clause.proofs.Fitting.{cone_fits}
 use Rattle.bound_clause.proofs.Nothing.{no_cone_at}
 use Rattle.bound_clause.proofs.numbered.NumberedBound.of_cone.Goals as goal
@@ -11,4 +11,4 @@ clause_of-requires c = record { fits = cone_fits (station_of c.args.self.now) (r
 pub returns-in-Visit : goal.returns-in-Visit
 returns-in-Visit c =
     let self = c.args.self.now in
-    c.new.ensures.items ∙ sym (ap (λ (ls : List Literal). numbered self ls) (no_cone_at (station_of self) (routes_in self) self.bound.now.requirement self.bound.now.origin c.in-Visit.is))
+    ap (λ (ls : List Lit). Some ls) c.new.ensures.items ∙ sym (ap (left self) (no_cone_at (station_of self) (routes_in self) self.bound.now.requirement self.bound.now.origin c.in-Visit.is))

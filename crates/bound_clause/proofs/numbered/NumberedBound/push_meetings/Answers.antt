@@ -1,9 +1,8 @@
-use Rattle.std.proofs.Common.{◌-◌, ◌<◌, List, length, ◌++◌, get_or, refl, sym, ap, subst, ◌∙◌}
+use Rattle.std.proofs.Common.{◌-◌, ◌<◌, List, length, get_or, refl, ap, subst, ◌∙◌}
 use Rattle.bound_spec.specs.declared.Leg.{Leg}
-use Rattle.cone_clause.specs.Numbered.{lit_of}
+use Rattle.bound_clause.specs.Left.{gathered, together}
 use Rattle.bound_clause.specs.Said.{said_of_meetings}
-use Rattle.bound_clause.specs.Spoken.{ContendAll, station_of, routes_in, numbered}
-use Rattle.rail_base.specs.declared.plan.Command.{Command}
+use Rattle.bound_clause.specs.Spoken.{left, routes_in, station_of}
 use Rattle.bound_clause.proofs.Fitting.{meets_at}
 use Rattle.bound_clause.proofs.Putting.{meetings_next, meetings_end}
 use Rattle.bound_clause.proofs.numbered.NumberedBound.push_meetings.Goals as goal
@@ -15,14 +14,13 @@ pub push_between-requires : goal.push_between-requires
 push_between-requires c =
     let self = c.args.self.now in
     let legs = c.as_slice-legs.ensures in
-    subst (λ (ps : List (Command × Command)). ContendAll ps c.index-legs-index.result c.index-legs-index-in-loop-index.result) (sym self.contention.ordered)
-    (meets_at (station_of self) (routes_in self) self.bound.now self.known c.loop-index.index c.index-legs-index.result c.index-legs-index-in-loop-index.result c.loop-index.auto.index (subst (λ (ls : List Leg). c.loop-index.index < length ls) legs c.loop-index-test.true)
-    (c.index-legs-index.is ∙ ap (λ ls. get_or ls (c.loop-index.index - 1) c.index-legs-index.result) legs) (c.index-legs-index-in-loop-index.is ∙ ap (λ ls. get_or ls c.loop-index.index c.index-legs-index-in-loop-index.result) legs))
+    meets_at (station_of self) (routes_in self) self.bound.now self.known c.loop-index.index c.index-legs-index.result c.index-legs-index-in-loop-index.result c.loop-index.auto.index (subst (λ (ls : List Leg). c.loop-index.index < length ls) legs c.loop-index-test.true)
+    (c.index-legs-index.is ∙ ap (λ ls. get_or ls (c.loop-index.index - 1) c.index-legs-index.result) legs) (c.index-legs-index-in-loop-index.is ∙ ap (λ ls. get_or ls c.loop-index.index c.index-legs-index-in-loop-index.result) legs)
 
 pub loop-index-preserved : goal.loop-index-preserved
-loop-index-preserved c = meetings_next (lit_of (station_of c.args.self.now) (routes_in c.args.self.now) c.args.self.now.steps.count) c.as_slice-legs.result.now c.loop-index.index c.index-legs-index.result c.index-legs-index-in-loop-index.result c.loop-index.auto.index c.loop-index-test.true c.index-legs-index.is c.index-legs-index-in-loop-index.is c.loop-index.clause.items c.push_between.new.clause.items _ c.in_ok-push_between.ensures c.loop-index.invariant
+loop-index-preserved c = meetings_next c.args.self.now c.as_slice-legs.result.now c.loop-index.index c.index-legs-index.result c.index-legs-index-in-loop-index.result c.loop-index.auto.index c.loop-index-test.true c.index-legs-index.is c.index-legs-index-in-loop-index.is (gathered c.loop-index.clause) (gathered c.push_between.new.clause) _ c.in_ok-push_between.ensures c.loop-index.invariant
 
 pub returns : goal.returns
 returns c =
-    meetings_end (lit_of (station_of c.args.self.now) (routes_in c.args.self.now) c.args.self.now.steps.count) c.as_slice-legs.result.now c.loop-index.index c.loop-index.auto.index c.loop-index-test.false c.loop-index.clause.items _ c.loop-index.invariant
-    ∙ ap (λ ls. c.args.clause.now.items ++ numbered c.args.self.now (said_of_meetings ls)) c.as_slice-legs.ensures
+    meetings_end c.args.self.now c.as_slice-legs.result.now c.loop-index.index c.loop-index.auto.index c.loop-index-test.false (gathered c.loop-index.clause) _ c.loop-index.invariant
+    ∙ ap (λ ls. together (gathered c.args.clause.now) (left c.args.self.now (said_of_meetings ls))) c.as_slice-legs.ensures

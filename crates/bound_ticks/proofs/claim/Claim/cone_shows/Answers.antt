@@ -9,6 +9,6 @@ visit_in_run-requires-clause-known c = c.args.self.now.named.cone c.args.tick c.
 
 pub returns : goal.returns
 returns c =
-    let i = c.args.self.now.contention.interlocking.now in
+    let i = c.args.self.now.interlocking.now in
     let b = c.args.self.now.bound.now in
     c.is_made_at.ensures i b ∙ (ap (made_at i b c.args.tick) c.in_ok-made.ensures ∙ cone_made i b c.args.tick c.args.cone.now (visit_of c.args.from) c.requires.origin)

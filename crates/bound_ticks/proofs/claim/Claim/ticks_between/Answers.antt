@@ -7,7 +7,7 @@ use Rattle.bound_ticks.proofs.claim.Claim.ticks_between.Goals as goal
 
 pub returns : goal.returns
 returns c =
-    let i = c.args.self.now.contention.interlocking.now in
+    let i = c.args.self.now.interlocking.now in
     let most = c.args.self.now.most in
     let from = visit_of c.args.from in
     let to = visit_of c.args.to in

@@ -13,12 +13,12 @@ none : Command
 none = record { train = record { 0 = 0 }; route = record { 0 = 0 } }
 
 pub loop-other-init : goal.loop-other-init
-loop-other-init c = adds_none (λ (e : Command). IsPlaceOf c.args.self.now.contention.pairs.now (e, c.args.command)) c.deref-other-items.result.now _
+loop-other-init c = adds_none (λ (e : Command). IsPlaceOf c.args.self.now.contention.pairs.now.pairs (e, c.args.command)) c.deref-other-items.result.now _
 
 pub loop-other-preserved : goal.loop-other-preserved
 unfolding none
 loop-other-preserved c =
-    let pairs : List (Command × Command) = c.args.self.now.contention.pairs.now in
+    let pairs : List (Command × Command) = c.args.self.now.contention.pairs.now.pairs in
     let others : List Command = c.deref-other-items.result.now in
     let run : map (λ e. (c.args.command, e)) others ≡ filter (λ p. is_command p.0 c.args.command) pairs = ap (map (λ e. (c.args.command, e))) c.deref-other-items.ensures.value ∙ c.in_ok-others.ensures.pairs in
     let place : Command → ℕ → Type 0 = λ e. IsPlaceOf pairs (e, c.args.command) in
@@ -30,7 +30,7 @@ loop-other-preserved c =
 
 pub returns : goal.returns
 returns c =
-    let pairs : List (Command × Command) = c.args.self.now.contention.pairs.now in
+    let pairs : List (Command × Command) = c.args.self.now.contention.pairs.now.pairs in
     let others : List Command = c.deref-other-items.result.now in
     let run : map (λ e. (c.args.command, e)) others ≡ filter (λ p. is_command p.0 c.args.command) pairs = ap (map (λ e. (c.args.command, e))) c.deref-other-items.ensures.value ∙ c.in_ok-others.ensures.pairs in
     let place : Command → ℕ → Type 0 = λ e. IsPlaceOf pairs (e, c.args.command) in

@@ -12,12 +12,12 @@ none : Command
 none = record { train = record { 0 = 0 }; route = record { 0 = 0 } }
 
 pub loop-pair-init : goal.loop-pair-init
-loop-pair-init c = adds_none (λ (p : Command × Command). IsPlaceOf c.args.self.now.contention.pairs.now p) c.as_slice-pair-items.result.now _
+loop-pair-init c = adds_none (λ (p : Command × Command). IsPlaceOf c.args.self.now.contention.pairs.now.pairs p) c.as_slice-pair-items.result.now _
 
 pub loop-pair-preserved : goal.loop-pair-preserved
 unfolding none
 loop-pair-preserved c =
-    let pairs : List (Command × Command) = c.args.self.now.contention.pairs.now in
+    let pairs : List (Command × Command) = c.args.self.now.contention.pairs.now.pairs in
     let listed : List (Command × Command) = c.as_slice-pair-items.result.now in
     let pair : Command × Command = get_or listed c.loop-pair.pair-index (none, none) in
     let member : In pair c.args.self.now.cone.now.pairs = subst (λ (ps : List (Command × Command)). In pair ps) c.as_slice-pair-items.ensures (member_at listed c.loop-pair.pair-index (none, none) c.loop-pair-test.true) in
@@ -27,6 +27,6 @@ loop-pair-preserved c =
 
 pub returns : goal.returns
 returns c =
-    let pairs : List (Command × Command) = c.args.self.now.contention.pairs.now in
+    let pairs : List (Command × Command) = c.args.self.now.contention.pairs.now.pairs in
     subst (λ (ps : List (Command × Command)). Adds (λ i. (p : Command × Command) × In p ps × IsPlaceOf pairs p i) c.args.places.now.items c.loop-pair.places.items) c.as_slice-pair-items.ensures
     (adds_all (λ (p : Command × Command). IsPlaceOf pairs p) c.as_slice-pair-items.result.now c.loop-pair.pair-index _ _ c.loop-pair-test.false c.loop-pair.invariant)

@@ -5,5 +5,5 @@ use Rattle.cone_clause.proofs.numbered.NumberedCone.pair_places.Goals as goal
 
 pub returns : goal.returns
 returns c =
-    listed_all c.args.self.now.contention.pairs.now c.args.self.now.cone.now c.new-places.result.items c.add_pairs.new.places.items c.sort_unstable.new.self.items c.new-places.ensures.items c.in_ok-add_pairs.ensures c.sort_unstable.ensures.permutation
+    listed_all c.args.self.now.contention.pairs.now.pairs c.args.self.now.cone.now c.new-places.result.items c.add_pairs.new.places.items c.sort_unstable.new.self.items c.new-places.ensures.items c.in_ok-add_pairs.ensures c.sort_unstable.ensures.permutation
     (IsNonDecreasingBy-from_sort (λ (n : ℕ). n) c.sort_unstable.new.self.items c.sort_unstable.ensures.sorted)

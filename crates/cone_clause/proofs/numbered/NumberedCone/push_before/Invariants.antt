@@ -8,7 +8,7 @@ use Rattle.cone_clause.proofs.numbered.NumberedCone.push_before.Given as goal
 -- all is said of the pairs up to the next, and the places from there on are left
 abbrev pub invariant-loop-place : goal.invariant-loop-place
 invariant-loop-place l = record {
-  within : l.next ≤ length l.self.contention.pairs.now;
-  spoken : l.clause.items ≡ l.fn.clause.items ++ numbered l.self (flat_map (λ (p : Command × Command). before l.self p.0 p.1) (take l.next l.self.contention.pairs.now));
-  left : (i : ℕ) → l.next ≤ i → IsSaid l.self.contention.pairs.now l.self.cone.now i → In i (drop l.place-index l.place-items);
+  within : l.next ≤ length l.self.contention.pairs.now.pairs;
+  spoken : l.clause.items ≡ l.fn.clause.items ++ numbered l.self (flat_map (λ (p : Command × Command). before l.self p.0 p.1) (take l.next l.self.contention.pairs.now.pairs));
+  left : (i : ℕ) → l.next ≤ i → IsSaid l.self.contention.pairs.now.pairs l.self.cone.now i → In i (drop l.place-index l.place-items);
 }

@@ -5,7 +5,7 @@ use Rattle.cone_run.proofs.checked.ConeRun.comes_after.Goals as goal
 pub visit_tick-requires-clause-within : goal.visit_tick-requires-clause-within
 visit_tick-requires-clause-within c =
     let l = c.args.self.now.layout in
-    let until = named_until l.contention.interlocking.now.design.station l.contention.interlocking.now.routes l.cone.now l.known c.args.order.now.first_train in
+    let until = named_until l.interlocking.now.design.station l.interlocking.now.routes l.cone.now l.known c.args.order.now.first_train in
     let horizon = c.horizon_of.ensures in
     let near = c.if-horizon_of-tick.false in
     omega arith

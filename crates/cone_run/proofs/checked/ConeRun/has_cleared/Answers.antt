@@ -10,13 +10,13 @@ use Rattle.cone_run.proofs.checked.ConeRun.has_cleared.Goals as goal
 pub route_at-requires : goal.route_at-requires
 route_at-requires c =
     let l = c.args.self.now.layout in
-    (listed_there l.contention.interlocking.now.design.station l.contention.interlocking.now.routes l.cone.now l.known c.args.first c.args.second c.requires.listed_pair).0.1
+    (listed_there l.interlocking.now.design.station l.interlocking.now.routes l.cone.now l.known c.args.first c.args.second c.requires.listed_pair).0.1
 
 pub returns : goal.returns
 returns c =
     let l = c.args.self.now.layout in
-    let d = l.contention.interlocking.now.design.station in
-    let routes = l.contention.interlocking.now.routes in
+    let d = l.interlocking.now.design.station in
+    let routes = l.interlocking.now.routes in
     let p = of_cone l.cone.now in
     let last = last_tick l.cone.now in
     let first = c.args.first in

@@ -24,7 +24,7 @@ remove-journey-requires c =
 
 pub loop-number-preserved : goal.loop-number-preserved
 loop-number-preserved c =
-    let i = c.args.self.now.contention.interlocking.now in
+    let i = c.args.self.now.interlocking.now in
     let d = i.design.station in
     let routes = i.routes in
     let cone = c.args.self.now.cone.now in

@@ -10,7 +10,7 @@ use Rattle.cone_run.proofs.layout.ConeLayout.history.Goals as goal
 
 pub history_of-requires : goal.history_of-requires
 history_of-requires c =
-    let i = c.args.self.now.contention.interlocking.now in
+    let i = c.args.self.now.interlocking.now in
     let d = i.design.station in
     let cone = c.args.self.now.cone.now in
     let known = c.args.self.now.known in

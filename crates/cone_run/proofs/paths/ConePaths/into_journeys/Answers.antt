@@ -10,7 +10,7 @@ pub returns : goal.returns
 returns c =
     let self = c.args.self in
     let cone = self.layout.cone.now in
-    let over = self.layout.contention.interlocking.now in
+    let over = self.layout.interlocking.now in
     let p = of_cone cone in
     let same = path_of_number over.design.station (free_path cone) self.train_paths.given.paths.items self.given (no_free_path over.design.station over.routes cone self.layout.known) in
     subst (λ (i : Interlocking). AreJourneys i.design.station i.routes p c.in_ok-journeys.journeys.items) self.over (c.in_ok-journeys.ensures p same c.in_ok-waits.ensures)

@@ -6,8 +6,8 @@ use Rattle.cone_run.proofs.train.TrainRun.holder_fits.Goals as goal
 pub returns-else-not-needed : goal.returns-else-not-needed
 returns-else-not-needed c =
     let l = c.args.self.now.run.layout in
-    let d = l.contention.interlocking.now.design.station in
-    let routes = l.contention.interlocking.now.routes in
+    let d = l.interlocking.now.design.station in
+    let routes = l.interlocking.now.routes in
     let e = c.args.self.now.said.now in
     let h = c.in-Some.holder in
     let needed : holder_needed d routes l.cone.now e ≡ true = sym c.holder_needed-needed.ensures ∙ c.if-not-needed.false in

@@ -8,8 +8,8 @@ use Rattle.cone_run.proofs.train.TrainRun.just_granted.Goals as goal
 pub returns : goal.returns
 returns c =
     let l = c.args.self.now.run.layout in
-    let d = l.contention.interlocking.now.design.station in
-    let routes = l.contention.interlocking.now.routes in
+    let d = l.interlocking.now.design.station in
+    let routes = l.interlocking.now.routes in
     let p = of_cone l.cone.now in
     let last = last_tick l.cone.now in
     let told = c.args.self.now.run.is_history in

@@ -1,6 +1,6 @@
 use Rattle.std.proofs.Common.{ℕ, ◌+◌, ◌<◌, length, arith}
 use Rattle.rail_base.specs.declared.station.TrainNo.{TrainNo}
-use Rattle.contending.proofs.Gathering.{push_next}
+use Rattle.command_set.proofs.Gathering.{push_next}
 use Rattle.plan_encoding.proofs.encoder.Encoder.trains.Goals as goal
 use Rattle.rail_base.proofs.Lists.{count_next}
 

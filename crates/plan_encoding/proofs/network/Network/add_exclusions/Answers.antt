@@ -1,6 +1,6 @@
 use Rattle.std.proofs.Common.{map, ap}
 use Rattle.plan_encoding.specs.Tables.{exclude_both}
-use Rattle.contending.proofs.Gathering.{kept_next}
+use Rattle.command_set.proofs.Gathering.{kept_next}
 use Rattle.plan_encoding.proofs.network.Network.add_exclusions.Goals as goal
 use Rattle.std.proofs.lemmas.List.{drop_more}
 

@@ -1,6 +1,6 @@
 use Rattle.std.proofs.Common.{[], ◌∷◌, ◌++◌, map, ap, ◌∙◌}
 use Rattle.plan_encoding.specs.Tables.{going_on}
-use Rattle.contending.proofs.Gathering.{push_next}
+use Rattle.command_set.proofs.Gathering.{push_next}
 use Rattle.plan_encoding.proofs.Tabled.{known_routes}
 use Rattle.plan_encoding.proofs.network.Network.all_going_on.Goals as goal
 use Rattle.std.proofs.lemmas.List.{drop_more}

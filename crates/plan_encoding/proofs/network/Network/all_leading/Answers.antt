@@ -1,7 +1,7 @@
 use Rattle.std.proofs.Common.{[], ◌∷◌, ◌++◌, map, ap, ◌∙◌}
 use Rattle.clause_spec.specs.Clauses.{leading_to}
 use Rattle.plan_encoding.specs.Tables.{leading}
-use Rattle.contending.proofs.Gathering.{push_next}
+use Rattle.command_set.proofs.Gathering.{push_next}
 use Rattle.plan_encoding.proofs.Tabled.{known_routes}
 use Rattle.plan_encoding.proofs.network.Network.all_leading.Goals as goal
 use Rattle.std.proofs.lemmas.List.{drop_more}

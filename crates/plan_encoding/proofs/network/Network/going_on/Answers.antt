@@ -1,7 +1,7 @@
 use Rattle.std.proofs.Common.{◌++◌, filter, sym, ap, ◌∙◌}
 use Rattle.rail_spec.specs.Plans.{route_at, goes_on}
 use Rattle.std.proofs.Common.{ap₂}
-use Rattle.contending.proofs.Gathering.{kept_next}
+use Rattle.command_set.proofs.Gathering.{kept_next}
 use Rattle.plan_encoding.proofs.Tabled.{known_routes}
 use Rattle.plan_encoding.proofs.network.Network.going_on.Goals as goal
 use Rattle.std.proofs.lemmas.List.{drop_more}

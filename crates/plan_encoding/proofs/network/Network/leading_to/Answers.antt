@@ -1,6 +1,6 @@
 use Rattle.std.proofs.Common.{◌++◌, filter, sym, ap, ◌∙◌}
 use Rattle.rail_spec.specs.Plans.{route_at, goes_on}
-use Rattle.contending.proofs.Gathering.{kept_next}
+use Rattle.command_set.proofs.Gathering.{kept_next}
 use Rattle.plan_encoding.proofs.Tabled.{known_routes}
 use Rattle.plan_encoding.proofs.network.Network.leading_to.Goals as goal
 use Rattle.std.proofs.lemmas.List.{drop_more}

@@ -1,7 +1,7 @@
 use Rattle.std.proofs.Common.{◌-◌, ◌++◌, [], ◌∷◌, ap, ◌∙◌}
 use Rattle.std.proofs.lemmas.List.{drop_more}
 use Rattle.normal_clause_spec.specs.Variables.{is_in, normal_numbered}
-use Rattle.contending.proofs.Gathering.{twice_next}
+use Rattle.command_set.proofs.Gathering.{twice_next}
 use Rattle.plan_encoding.specs.Encoders.{over}
 use Rattle.plan_encoding.proofs.normal.NormalEncoder.kept_clause.Goals as goal
 

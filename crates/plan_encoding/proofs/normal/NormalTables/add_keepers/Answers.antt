@@ -2,8 +2,8 @@ use Rattle.std.proofs.Common.{◌≡◌, ℕ, ◌+◌, ◌-◌, ◌<◌, ◌++�
 use Rattle.rail_base.specs.declared.plan.Command.{Command}
 use Rattle.rail_base.specs.Numbering.{count_from}
 use Rattle.rail_base.proofs.Lists.{count_next}
-use Rattle.contending.proofs.Gathering.{part_next}
-use Rattle.contending.proofs.Sharing.{length_rows, row_is}
+use Rattle.command_set.proofs.Gathering.{part_next}
+use Rattle.live_contending.proofs.Tabled.{length_rows, row_is}
 use Rattle.route_keepers.specs.Keepers.{keepers_of}
 use Rattle.plan_encoding.specs.Encoders.{station, table}
 use Rattle.plan_encoding.proofs.Keeping.{keepers_by_trains, keepers_on, keepers_others, keepers_own}

@@ -1,5 +1,5 @@
 use Rattle.std.proofs.Common.{◌++◌, ap, ◌∙◌, arith}
-use Rattle.contending.proofs.Sharing.{length_rows, row_is}
+use Rattle.live_contending.proofs.Tabled.{length_rows, row_is}
 use Rattle.normal_clause_spec.specs.Clauses.{keepers}
 use Rattle.plan_encoding.specs.Encoders.{over, table}
 use Rattle.plan_encoding.specs.Normal.{commands_on}

@@ -1,24 +1,23 @@
-use Rattle.std.proofs.Common.{flat_map, ap, ◌∙◌}
+use Rattle.std.proofs.Common.{flat_map, ap}
 use Rattle.clause_spec.specs.Clauses.{stays_given}
 use Rattle.plan_encoding.specs.Sinks.{emitted}
 use Rattle.plan_encoding.specs.Encoders.{over, numbered_clauses}
 use Rattle.plan_encoding.proofs.Emission.{emitted_next, next_fails, next_member, handed_on}
-use Rattle.plan_encoding.proofs.Tabled.{known_commands}
 use Rattle.plan_encoding.proofs.tables.Tables.emit_stays.Goals as goal
 
 pub loop-command-init : goal.loop-command-init
 loop-command-init c =
-    ap (λ xs. emitted c.args.sink.now (numbered_clauses c.args.self.now.encoder (flat_map (over c.args.self.now.encoder stays_given) xs))) (c.deref-command-items.ensures.value ∙ c.args.self.now.every_command)
+    ap (λ xs. emitted c.args.sink.now (numbered_clauses c.args.self.now.encoder (flat_map (over c.args.self.now.encoder stays_given) xs))) (c.commands-command-items.ensures.value)
 
 pub emit_stays_of-requires : goal.emit_stays_of-requires
 emit_stays_of-requires c =
-    record { command = known_commands c.args.self.now c.deref-command-items.result.now c.deref-command-items.ensures.value c.loop-command.command-index _ c.loop-command-test.true }
+    record { command = c.commands-command-items.ensures.known c.loop-command.command-index _ c.loop-command-test.true }
 
 pub returns-in_err-emit_stays_of-clause-err : goal.returns-in_err-emit_stays_of-clause-err
 returns-in_err-emit_stays_of-clause-err c =
     handed_on _ c.from_residual.result c.in_err-emit_stays_of.field-0.0 c.from_residual.ensures.1
-    (next_fails c.args.self.now.encoder _ _ _ (next_member (over c.args.self.now.encoder stays_given) c.deref-command-items.result.now c.loop-command.command-index _ c.loop-command-test.true) c.loop-command.sink _ _ c.in_err-emit_stays_of.ensures.err c.loop-command.invariant)
+    (next_fails c.args.self.now.encoder _ _ _ (next_member (over c.args.self.now.encoder stays_given) c.commands-command-items.result.now c.loop-command.command-index _ c.loop-command-test.true) c.loop-command.sink _ _ c.in_err-emit_stays_of.ensures.err c.loop-command.invariant)
 
 pub loop-command-preserved : goal.loop-command-preserved
 loop-command-preserved c =
-    emitted_next c.args.self.now.encoder _ _ _ (next_member (over c.args.self.now.encoder stays_given) c.deref-command-items.result.now c.loop-command.command-index _ c.loop-command-test.true) c.loop-command.sink c.emit_stays_of.new.sink _ c.in_ok-emit_stays_of.ensures.ok c.loop-command.invariant
+    emitted_next c.args.self.now.encoder _ _ _ (next_member (over c.args.self.now.encoder stays_given) c.commands-command-items.result.now c.loop-command.command-index _ c.loop-command-test.true) c.loop-command.sink c.emit_stays_of.new.sink _ c.in_ok-emit_stays_of.ensures.ok c.loop-command.invariant

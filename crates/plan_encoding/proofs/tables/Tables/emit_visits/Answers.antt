@@ -1,14 +1,14 @@
+use Rattle.live_clause_spec.specs.Listed.{live_makes_visits}
 use Rattle.std.proofs.Common.{flat_map, ap, ◌∙◌}
-use Rattle.clause_spec.specs.Clauses.{makes_visits}
 use Rattle.plan_encoding.specs.Sinks.{emitted}
-use Rattle.plan_encoding.specs.Encoders.{over, numbered_clauses}
+use Rattle.plan_encoding.specs.Encoders.{among, numbered_clauses}
 use Rattle.plan_encoding.proofs.Emission.{emitted_next, next_fails, next_member, handed_on}
 use Rattle.plan_encoding.proofs.Tabled.{known_trains}
 use Rattle.plan_encoding.proofs.tables.Tables.emit_visits.Goals as goal
 
 pub loop-train-init : goal.loop-train-init
 loop-train-init c =
-    ap (λ xs. emitted c.args.sink.now (numbered_clauses c.args.self.now.encoder (flat_map (over c.args.self.now.encoder makes_visits) xs))) (c.deref-train-items.ensures.value ∙ c.args.self.now.every_train)
+    ap (λ xs. emitted c.args.sink.now (numbered_clauses c.args.self.now.encoder (flat_map (among c.args.self.now.encoder live_makes_visits) xs))) (c.deref-train-items.ensures.value ∙ c.args.self.now.every_train)
 
 pub emit_visits_of-requires : goal.emit_visits_of-requires
 emit_visits_of-requires c =
@@ -17,8 +17,8 @@ emit_visits_of-requires c =
 pub returns-in_err-emit_visits_of-clause-err : goal.returns-in_err-emit_visits_of-clause-err
 returns-in_err-emit_visits_of-clause-err c =
     handed_on _ c.from_residual.result c.in_err-emit_visits_of.field-0.0 c.from_residual.ensures.1
-    (next_fails c.args.self.now.encoder _ _ _ (next_member (over c.args.self.now.encoder makes_visits) c.deref-train-items.result.now c.loop-train.train-index _ c.loop-train-test.true) c.loop-train.sink _ _ c.in_err-emit_visits_of.ensures.err c.loop-train.invariant)
+    (next_fails c.args.self.now.encoder _ _ _ (next_member (among c.args.self.now.encoder live_makes_visits) c.deref-train-items.result.now c.loop-train.train-index _ c.loop-train-test.true) c.loop-train.sink _ _ c.in_err-emit_visits_of.ensures.err c.loop-train.invariant)
 
 pub loop-train-preserved : goal.loop-train-preserved
 loop-train-preserved c =
-    emitted_next c.args.self.now.encoder _ _ _ (next_member (over c.args.self.now.encoder makes_visits) c.deref-train-items.result.now c.loop-train.train-index _ c.loop-train-test.true) c.loop-train.sink c.emit_visits_of.new.sink _ c.in_ok-emit_visits_of.ensures.ok c.loop-train.invariant
+    emitted_next c.args.self.now.encoder _ _ _ (next_member (among c.args.self.now.encoder live_makes_visits) c.deref-train-items.result.now c.loop-train.train-index _ c.loop-train-test.true) c.loop-train.sink c.emit_visits_of.new.sink _ c.in_ok-emit_visits_of.ensures.ok c.loop-train.invariant

@@ -25,5 +25,5 @@ returns-in-Some-2 c =
     let d = f.contention.interlocking.now.design.station in
     let read = subst (λ (o : Option Bound). MatchOption o (IsNoBoundLine c.deref.result.now) (λ x. line_in_bytes c.deref.result.now ≡ Some (Refute (evidence.Bound x)))) c.in-Some.is c.in_ok-bound.ensures in
     let denied = subst (λ (o : Option (Vec Lit Global)). MatchOption o (DeniesNothing f (evidence.Bound c.in-Some.bound)) (λ x. DeniedBy f (evidence.Bound c.in-Some.bound) x.items)) c.in-Some-2.is c.in_ok-clause.ensures in
-    bounded_so d f.steps.count f.steps.at_least_one f.plan.now.steps f.runs f.values.now f.decoded f.history.now f.tick f.violation f.fails
-    c.in-Some.bound c.in_ok-line.line.items c.in-Some-2.clause.items (ap line_in_bytes (sym c.deref.ensures.value) ∙ read) denied.0 denied.1
+    bounded_so d f.steps.count f.steps.at_least_one f.plan.now.steps f.runs f.kind f.values.now f.decoded f.history.now f.tick f.violation f.fails
+    c.in-Some.bound (c.requires c.in-Some.bound) c.in_ok-line.line.items c.in-Some-2.clause.items (ap line_in_bytes (sym c.deref.ensures.value) ∙ read) denied.0 denied.1

@@ -4,7 +4,7 @@ use Rattle.log_recorder.proofs.Searched.{le-split}
 use Rattle.verify_loop.specs.Outcomes.{IsProof}
 use Rattle.verify_loop.proofs.Held.{empty-so, some-so}
 use Rattle.verify_loop.proofs.rounds.PlanSearch.after_denial.Goals as goal
-use Rattle.verify_loop.proofs.rounds.PlanSearch.after_denial.Goals.{then-is_empty-via-then-is_empty, then-is_empty-via-else-is_empty+then-search-counts}
+use Rattle.verify_loop.proofs.rounds.PlanSearch.after_denial.Goals.{then-is_empty-via-then-is_empty, then-is_empty-via-else-is_empty+then-search-steps}
 
 pub returns-then-is_empty-clause-ends : goal.returns-then-is_empty-clause-ends
 returns-then-is_empty-clause-ends g c =
@@ -14,12 +14,12 @@ returns-then-is_empty-clause-ends g c =
     let b = c.args.self.now.budgets in
     let which : (c.args.core.now ≡ []) ⊎ (c.args.search.steps ≡ n) = elim c.then-is_empty.branch [
       | then-is_empty-via-then-is_empty w ↦ inl (empty-so c.args.core.now c.is_empty.result c.is_empty.ensures w.if-is_empty.true)
-      | then-is_empty-via-else-is_empty+then-search-counts w ↦ inr (w.if-search-counts.true ∙ w.counts.ensures.steps)
+      | then-is_empty-via-else-is_empty+then-search-steps w ↦ inr (w.if-search-steps.true ∙ w.steps.ensures)
     ] in
     subst (λ (log : List ℕ). IsInfeasible d n × IsProof m d n b log × (length log ≤ b.log_bytes)) (sym (ap (λ v. v.items) c.log_of.ensures)) (c.requires.of_all which)
 
 pub longer-search-requires-clause-known : goal.longer-search-requires-clause-known
 longer-search-requires-clause-known g c =
     let n = c.args.self.now.numbering.now.steps in
-    let less : c.args.search.steps < n = elim (le-split c.args.search.steps n c.requires.at_most_n) [ inl p ↦ p | inr q ↦ absurd (c.if-search-counts.false (q ∙ sym c.counts.ensures.steps)) ] in
+    let less : c.args.search.steps < n = elim (le-split c.args.search.steps n c.requires.at_most_n) [ inl p ↦ p | inr q ↦ absurd (c.if-search-steps.false (q ∙ sym c.steps.ensures)) ] in
     (c.requires.of_these (some-so c.args.core.now c.is_empty.result c.is_empty.ensures c.if-is_empty.false) less).0

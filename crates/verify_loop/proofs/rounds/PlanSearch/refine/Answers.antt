@@ -18,5 +18,5 @@ longer-requires-clause-known g c =
 pub solve_round-requires-clause-unsaid : goal.solve_round-requires-clause-unsaid
 solve_round-requires-clause-unsaid g c = elim c.else-search-most.branch [
   | else-search-most-via-then-search-most+else-is_refuted w ↦ (λ less unit. w.is_refuted.ensures.no w.if-is_refuted.false (subst (λ (z : Lit). HasUnit c.args.search.solver.arena (opposite z)) (sym w.by_step.ensures) unit))
-  | else-search-most-via-else-search-most w ↦ (λ less. (let most = w.if-search-most.false in let same = c.counts-most.ensures.steps in absurd (omega arith)))
+  | else-search-most-via-else-search-most w ↦ (λ less. (let most = w.if-search-most.false in let same = c.steps-most.ensures in absurd (omega arith)))
 ]

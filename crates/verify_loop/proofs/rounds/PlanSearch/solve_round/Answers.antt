@@ -1,7 +1,6 @@
 use Rattle.std.proofs.Common.{◌≡◌, ℕ, ◌≤◌, ◌<◌, ◌+◌, ◌-◌, true, List, [], ◌⊎◌, length, refl, sym, ap, ◌∙◌, subst, arith}
 use Rattle.rail_base.proofs.Admitting.{admitted}
 use Rattle.proof_log.specs.Words.{greatest_clause_number}
-use Rattle.clause_spec.specs.Variables.{By, number_of}
 use Rattle.rail_spec.specs.Track.{routes_of}
 use Rattle.log_recorder.specs.Logs.{by_step}
 use Rattle.sat_trail.proofs.Members.{assigned-self}
@@ -31,12 +30,11 @@ time_plan-requires-clause-at g c =
     let is = c.args.self.now.numbers in
     let within : derive_count run.0 ≤ b.conflicts - one.derives = (let most = run.2 in let is = c.min-allowed.ensures in let spent = c.derives.ensures in omega arith) in
     let holds = base_holds m d n b some one.arena one.recorder one.learnt.items one.vars one.derives c.args.search.failed.items c.args.search.sum c.args.search.steps c.requires.state two.arena two.recorder two.learnt.items two.vars two.derives run.0 run.1 c.in-Sat.values run.3.clauses few in
-    let at : (vars m d n).before_selectors + c.args.search.steps ≡ number_of d (routes_of d) n (By c.args.search.steps) = omega arith in
-    let told : value_in c.in-Sat.values (number_of d (routes_of d) n (By c.args.search.steps)) ≡ true = subst (λ (v : ℕ). value_in c.in-Sat.values v ≡ true) at (run.3.assumed (by_step (vars m d n) c.args.search.steps) (assigned-self (by_step (vars m d n) c.args.search.steps))) in
+    let told : value_in c.in-Sat.values ((vars m d n).before_selectors + c.args.search.steps) ≡ true = run.3.assumed (by_step (vars m d n) c.args.search.steps) (assigned-self (by_step (vars m d n) c.args.search.steps)) in
     at_plan m d n b some one.arena one.recorder one.learnt.items one.vars one.derives c.args.search.failed.items c.args.search.sum c.args.search.steps c.requires.state two.arena two.recorder two.learnt.items two.vars two.derives run.0 run.1 c.in-Sat.values run.3.clauses few
-    within c.put_to.ensures.vars c.in-Ok.plan.steps (c.in-Ok.ensures.value d (routes_of d) n is)
-    (c.in-Ok.ensures.runnable d (routes_of d) n is some holds)
-    (c.in-Ok.ensures.ends d (routes_of d) n is holds c.args.search.steps c.requires.state.at_least_one c.requires.state.at_most_n told)
+    within c.put_to.ensures.vars c.in-Ok.plan.steps (c.in-Ok.ensures.value m.base d (routes_of d) n is)
+    (c.in-Ok.ensures.runnable m.base d (routes_of d) n is some holds)
+    (c.in-Ok.ensures.ends m.base d (routes_of d) n is holds c.args.search.steps c.requires.state.at_least_one c.requires.state.at_most_n told)
 
 pub time_plan-requires-clause-are_values : goal.time_plan-requires-clause-are_values
 time_plan-requires-clause-are_values g c =
@@ -51,7 +49,7 @@ time_plan-requires-clause-are_values g c =
     let some = c.args.self.now.at_least_one in
     record {
       holds = base_holds m d n b some one.arena one.recorder one.learnt.items one.vars one.derives c.args.search.failed.items c.args.search.sum c.args.search.steps c.requires.state two.arena two.recorder two.learnt.items two.vars two.derives run.0 run.1 c.in-Sat.values run.3.clauses few;
-      decoded = c.in-Ok.ensures.value d (routes_of d) n c.args.self.now.numbers;
+      decoded = c.in-Ok.ensures.value m.base d (routes_of d) n c.args.self.now.numbers;
     }
 
 pub after_denial-requires : goal.after_denial-requires
