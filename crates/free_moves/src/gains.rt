@@ -56,5 +56,6 @@ fn allows(span: &Span, from: u64, accel: u64, place: u64, speed: u64) -> bool
     ensures { result ≡ span_allows span.now from accel place speed }
 {
     let end = end_of(span);
-    end <= from || end > place || rise(accel, speed, span.limit as u64) <= place - end
+    let limit = span.limit as u64;
+    end <= from || end > place || speed <= limit || rise(accel, speed, limit) <= place - end
 }

@@ -85,9 +85,10 @@ impl LegTrack<'_> {
     {
         let accel = self.accel();
         let tail = self.motor.tail();
-        self.can_brake(place, speed)
+        // The test that takes longest comes last.
+        (!self.rest || rise(accel, speed, 0) <= place)
             && behind(self.ahead.spans, accel, tail, place, speed)
-            && (!self.rest || rise(accel, speed, 0) <= place)
+            && self.can_brake(place, speed)
     }
 }
 

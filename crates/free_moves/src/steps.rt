@@ -15,9 +15,12 @@ impl LegTrack<'_> {
     {
         let mut place = from;
         let mut speed = 0;
+        let mut guess = 0;
         let mut ticks = 0;
         while ticks < most && place < to {
-            speed = self.free(place, speed);
+            let last = speed;
+            speed = self.free(place, guess);
+            guess = next_guess(last, speed);
             if speed == 0 {
                 return most + 1;
             }
@@ -36,9 +39,12 @@ impl LegTrack<'_> {
         let gain = self.accel() + self.brake();
         let mut place = from;
         let mut speed = 0;
+        let mut guess = 0;
         let mut ticks = 0;
         while ticks < most && place < to {
-            speed = self.free(place, speed);
+            let last = speed;
+            speed = self.free(place, guess);
+            guess = next_guess(last, speed);
             if speed == 0 {
                 return most + 1;
             }
@@ -47,4 +53,9 @@ impl LegTrack<'_> {
         }
         if place < to { most + 1 } else { ticks }
     }
+}
+
+/// What the speed may be after these two: it may change as much again.
+fn next_guess(last: u64, speed: u64) -> u64 {
+    speed.saturating_mul(2).saturating_sub(last)
 }

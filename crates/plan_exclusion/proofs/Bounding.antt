@@ -33,7 +33,7 @@ use Rattle.plan_exclusion.specs.Exclusions.{IsExclusion}
 use Rattle.plan_exclusion.specs.Failures.{FailsSo, AreValuesOfPlan}
 use Rattle.proof_judge.proofs.Below.{numbers_said}
 use Rattle.plan_exclusion.proofs.Modelling.{shown_alike}
-use Rattle.plan_exclusion.proofs.Within.{assigned_within}
+use Rattle.proof_judge.proofs.Within.{written_so}
 use Rattle.proof_judge.proofs.Showing.{none_of, shown_valid}
 use Rattle.clause_spec.proofs.Shown.{short_enough}
 
@@ -66,10 +66,5 @@ module _ (d : Station) (n : ℕ) (some : 1 ≤ n) (plan : List (List Command)) (
         record {
           evidence = evidence.Bound b;
           refuted_by = (record { history = history; tick = tick; violation = violation; fails = fails }, (valid, false_so b clause shows valid denied));
-          shows = shows;
-          left = s.1;
-          below = assigned_within kind d n some (evidence.Bound b) clause shows;
-          stands = stands;
-          written = text.1;
-          line_is = sym text.0;
+          written = written_so kind d n some (evidence.Bound b) line clause shows stands text.1 (sym text.0);
         }

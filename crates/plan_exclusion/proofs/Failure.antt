@@ -35,7 +35,7 @@ use Rattle.plan_exclusion.specs.Exclusions.{IsExclusion}
 use Rattle.plan_exclusion.specs.Failures.{AreValuesOfPlan, FailsSo, IsRefutedBy}
 use Rattle.plan_exclusion.proofs.Denying.{evidence_denies}
 use Rattle.plan_exclusion.proofs.Forming.{well_formed_within}
-use Rattle.plan_exclusion.proofs.Within.{assigned_within}
+use Rattle.proof_judge.proofs.Within.{written_so}
 use Rattle.plan_exclusion.proofs.Written.{cone-written}
 
 none_is : {X : Type 0} (o : Option X) → is_none o ≡ true → o ≡ None
@@ -87,10 +87,5 @@ module _ (d : Station) (n : ℕ) (routes : List Route) (table : routes ≡ route
           record {
             evidence = evidence.Cone cone;
             refuted_by = refuted_by;
-            shows = shows;
-            left = sym (cone_so kind d routes table n some cs speaks cone fits) ∙ sym left;
-            below = assigned_within kind d n some (evidence.Cone cone) clause shows;
-            stands = refl;
-            written = cone-written d good routes n cone plan most refutes_so (small each);
-            line_is = text;
+            written = written_so kind d n some (evidence.Cone cone) line clause shows refl (cone-written d good routes n cone plan most refutes_so (small each)) text;
           }

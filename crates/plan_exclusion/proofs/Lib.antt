@@ -6,4 +6,3 @@ pub mod Forming
 pub mod Modelling
 pub mod Truth
 pub mod Written
-pub mod Within

@@ -11,12 +11,12 @@ use Rattle.bound_spec.specs.declared.Evidence.TheVariants as evidence
 use Rattle.sat_clause.specs.declared.lit.Lit.{Lit}
 use Rattle.sat_clause.specs.Clauses.{clause_holds}
 use Rattle.sat_core.specs.Models.{value_in}
-use Rattle.plan_exclusion.specs.declared.exclusion.Exclusion.{Exclusion}
+use Rattle.proof_judge.specs.declared.evidence.EvidenceLine.{EvidenceLine}
 use Rattle.plan_exclusion.specs.declared.exclusion.FailedPlan.{FailedPlan}
 use Rattle.plan_exclusion.specs.Exclusions.{IsExclusion}
 
 -- it excludes the plan that fails
-abbrev pub IsExclusionOf : FailedPlan → Exclusion → Type 0
+abbrev pub IsExclusionOf : FailedPlan → EvidenceLine → Type 0
 IsExclusionOf f e =
     IsExclusion f.kind f.contention.interlocking.now.design.station f.steps.count f.plan.now.steps
     e.line.items e.clause.items

@@ -19,7 +19,7 @@ use clause_spec::BaseKind;
 use cone_clause::{Contention, clause_of};
 use interlocking::Steps;
 use log_checker::{RefuteFault, Refuter};
-use proof_judge::ByDesign;
+use proof_judge::{ByDesign, EvidenceLine};
 use proof_log::{Line, LineFault, read_line, write_line};
 use rail_base::history::History;
 use rail_base::plan::{Plan, Violation};
@@ -27,13 +27,6 @@ use sat_clause::Lit;
 use sat_core::Assignment;
 use std::alloc::{AllocError, Global};
 use timing_refuter::slice;
-
-/// A line of a proof by which a plan is excluded, without its end, and the clause that it shows.
-#[derive(Drop)]
-pub struct Exclusion {
-    pub line: Vec<u8>,
-    pub clause: Vec<Lit>,
-}
 
 /// A plan that can be carried out and fails, and how.
 #[derive(Clone, Copy)]
@@ -70,7 +63,7 @@ impl FailedPlan<'_, '_> {
     /// # Errors
     ///
     /// Want of memory alone.
-    pub fn exclusion(&self, alloc: Global, finder: &mut Finder) -> Result<Exclusion, AllocError>
+    pub fn exclusion(&self, alloc: Global, finder: &mut Finder) -> Result<EvidenceLine, AllocError>
         ensures { IfOk result (IsExclusionOf self.now) }
     {
         match self.kind {
@@ -96,7 +89,7 @@ impl FailedPlan<'_, '_> {
     }
 
     /// The exclusion by the cone of the failure.
-    fn by_cone(&self, alloc: Global) -> Result<Exclusion, AllocError>
+    fn by_cone(&self, alloc: Global) -> Result<EvidenceLine, AllocError>
         ensures { IfOk result (IsExclusionOf self.now) }
     {
         let cone = slice(
@@ -112,7 +105,7 @@ impl FailedPlan<'_, '_> {
         };
         let evidence = Evidence::Cone(cone);
         let line = write_line(alloc, &Line::Refute { evidence })?;
-        Ok(Exclusion { line, clause })
+        Ok(EvidenceLine { line, clause })
     }
 
     /// The bound of a line as it is read back, or none where the line does not spell one.
@@ -145,7 +138,7 @@ impl FailedPlan<'_, '_> {
 
     /// The exclusion by a bound, as its line is read back: none where the bound is not valid, or excludes other plans
     /// alone.
-    fn by_bound(&self, alloc: Global, bound: Bound) -> Result<Option<Exclusion>, AllocError>
+    fn by_bound(&self, alloc: Global, bound: Bound) -> Result<Option<EvidenceLine>, AllocError>
         requires { TakesBounds self.now }
         ensures { IfOk result (λ e. MatchOption e (ExcludesNothing self.now bound) (IsExclusionOf self.now)) }
     {
@@ -155,13 +148,17 @@ impl FailedPlan<'_, '_> {
             return Ok(None);
         };
         match self.clause_by(alloc, &Evidence::Bound(bound))? {
-            Some(clause) => Ok(Some(Exclusion { line, clause })),
+            Some(clause) => Ok(Some(EvidenceLine { line, clause })),
             None => Ok(None),
         }
     }
 
     /// The exclusion by the first of the bounds that are found that is one, if any is.
-    fn by_bounds(&self, alloc: Global, finder: &mut Finder) -> Result<Option<Exclusion>, AllocError>
+    fn by_bounds(
+        &self,
+        alloc: Global,
+        finder: &mut Finder,
+    ) -> Result<Option<EvidenceLine>, AllocError>
         requires { TakesBounds self.now }
         ensures { IfOk result (λ e. ForSome e (IsExclusionOf self.now)) }
     {

@@ -5,5 +5,5 @@ mod denied;
 mod exclusion;
 mod laws;
 
-pub use exclusion::{Exclusion, FailedPlan};
+pub use exclusion::FailedPlan;
 pub use laws::evidence_denies_its_plan;

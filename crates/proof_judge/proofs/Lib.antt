@@ -4,3 +4,4 @@ pub mod Showing
 pub mod Below
 pub mod Sound
 pub mod Under
+pub mod Within

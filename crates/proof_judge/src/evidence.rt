@@ -32,6 +32,13 @@ pub struct ByDesign<'a> {
         ≡ live_commands (speaks_of kind i.design.station i.routes) i.design.station i.routes },
 }
 
+/// A line of a proof that names a cone or a bound, without its end, and what is left of the clause that it shows.
+#[derive(Drop)]
+pub struct EvidenceLine {
+    pub line: Vec<u8>,
+    pub clause: Vec<Lit>,
+}
+
 /// Why a cone gives no clause.
 fn of_cone(fault: ConeFault) -> RefuteFault
     ensures { result ≡ NotRefuted (EvidenceFault.Cone fault) }

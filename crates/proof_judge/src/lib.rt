@@ -5,6 +5,6 @@ mod evidence;
 mod judging;
 mod laws;
 
-pub use evidence::ByDesign;
+pub use evidence::{ByDesign, EvidenceLine};
 pub use judging::judge;
 pub use laws::yes_is_infeasible;

@@ -7,8 +7,10 @@ pub mod Heading
 pub mod Modelling
 pub mod Within
 pub mod Refining
+pub mod Ordering
 pub mod Each
 pub mod Refuting
+pub mod Begun
 pub mod Answering
 pub mod Differing
 pub mod Fewer

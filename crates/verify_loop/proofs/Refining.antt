@@ -113,7 +113,7 @@ module _ (m : Aim) (d : Station) (n : ℕ) (b : Budgets) (some : 1 ≤ n) (store
       full_so unsaid clause hints bytes next fewer follow e m none = (
         e,
         past (subst (λ (o : Option ℕ). has_room o (bytes + next) ≡ false) (went.limit ∙ ap Some s.limit) none),
-        inr (lines, s.rs, log_so, within_so fewer, inl ((clause, hints), next_so unsaid clause hints follow, m)),
+        inr (inr (lines, s.rs, log_so, within_so fewer, inl ((clause, hints), next_so unsaid clause hints follow, m))),
       )
         where
           past : nat_le (bytes + next) b.log_bytes ≡ false → b.log_bytes < bytes + next

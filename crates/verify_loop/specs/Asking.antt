@@ -1,9 +1,18 @@
 -- Where a search is that answers a question.
-use Rattle.std.specs.Prelude.{ℕ, ◌+◌, ◌<◌, Bool, List, [], ◌∷◌, Option}
+use Rattle.std.specs.Prelude.{ℕ, ◌≡◌, ◌+◌, ◌-◌, ◌<◌, Bool, true, List, [], ◌∷◌, ◌++◌, filter, flat_map, length, Option}
 use Rattle.clause_spec.specs.declared.question.VariableCounts.{VariableCounts}
-use Rattle.plan_exclusion.specs.declared.exclusion.Exclusion.{Exclusion}
 use Rattle.plan_exclusion.specs.Exclusions.{IsExclusion}
 use Rattle.plan_exclusion.specs.Failures.{AreValuesOfPlan}
+use Rattle.order_bounds.specs.Orders.{makes_both, said_by, said_of}
+use Rattle.proof_judge.specs.declared.evidence.EvidenceLine.{EvidenceLine}
+use Rattle.proof_judge.specs.Written.{IsEvidenceLine}
+use Rattle.clause_spec.specs.declared.question.BaseKind.TheVariants.{Live}
+use Rattle.live_clause_spec.specs.Live.{is_live}
+use Rattle.live_clause_spec.specs.Variables.{live_pairs}
+use Rattle.rail_base.specs.Numbering.{one_to}
+use Rattle.rail_spec.specs.Track.{routes_of}
+use Rattle.sat_core.specs.Texts.{added_line}
+use Rattle.verify_loop.specs.declared.outcome.Outcome.TheVariants.{LogSpent, Memory}
 use Rattle.rail_base.specs.declared.plan.Command.{Command}
 use Rattle.rail_base.specs.declared.station.Station.{Station}
 use Rattle.bound_spec.specs.declared.Evidence.{Evidence}
@@ -17,6 +26,28 @@ use Rattle.verify_loop.specs.declared.rounds.SearchState.{SearchState}
 use Rattle.verify_loop.specs.Outcomes.{IsOutcome, IsFound, cost_of, vars}
 use Rattle.verify_loop.specs.Searching as searching
 use Rattle.verify_loop.specs.Telling as telling
+
+-- ---- one more line
+
+-- the search has the clause of the line too, and its log the line
+pub record IsAdded (old : SearchState) (l : EvidenceLine) (new : SearchState) : Type 0 where
+  pub clauses : new.solver.arena ≡ old.solver.arena ++ (l.clause.items, true) ∷ []
+  pub learnt : new.solver.learnt.items ≡ old.solver.learnt.items
+  pub text : new.solver.recorder.bytes.items ≡ old.solver.recorder.bytes.items ++ added_line l.line.items
+  pub limit : new.solver.recorder.limit ≡ old.solver.recorder.limit
+  pub vars : new.solver.vars ≡ old.solver.vars
+  pub derives : new.solver.derives ≡ old.solver.derives
+  pub failed : new.failed ≡ old.failed
+  pub sum : new.sum ≡ old.sum
+  pub steps : new.steps ≡ old.steps
+
+-- the log has no room for it, or there was no memory
+abbrev pub IsLeftOut : SearchState → EvidenceLine → Outcome → Type 0
+IsLeftOut s l (LogSpent log bytes next) =
+    (log.items ≡ s.solver.recorder.bytes.items) × (bytes ≡ length log.items) × (next ≡ length l.line.items + 1)
+    × (s.solver.recorder.limit < bytes + next)
+IsLeftOut s l Memory = Unit {0}
+IsLeftOut s l _ = ⊥
 
 module _ (q : PlanSearch) where
   -- the station
@@ -46,12 +77,38 @@ module _ (q : PlanSearch) where
   AreValuesFor = AreValuesOfPlan q.aim.base station_of most_steps
 
   -- the line and the clause of a cone or a bound that shows that a plan fails
-  abbrev pub Excludes : List (List Command) → Exclusion → Type 0
+  abbrev pub Excludes : List (List Command) → EvidenceLine → Type 0
   Excludes plan e = IsExclusion q.aim.base station_of most_steps plan e.line.items e.clause.items
 
   -- how many ticks the plan costs
   abbrev pub ticks_of : List (List Command) → ℕ
   ticks_of plan = cost_of station_of most_steps (plan ∷ [])
+
+  -- ---- orders, before the first plan
+
+  -- the line and the clause of some cone or bound
+  abbrev pub ShowsSome : EvidenceLine → Type 0
+  ShowsSome l =
+      (e : Evidence) × IsEvidenceLine q.aim.base station_of most_steps e l.line.items l.clause.items
+
+  -- pairs of live commands that contend, of which the order may say something
+  abbrev pub IsPairList : ℕ → List (Command × Command) → Type 0
+  IsPairList order pairs = let routes = routes_of station_of in
+      pairs ≡ filter (makes_both station_of routes order) (live_pairs (is_live station_of routes) station_of routes)
+
+  -- what the orders before this one say
+  abbrev pub said_before : ℕ → List Evidence
+  said_before order = flat_map (said_by Live station_of most_steps) (one_to (order - 1))
+
+  -- and this one of some pairs
+  abbrev pub said_to : ℕ → List (Command × Command) → List Evidence
+  said_to order pairs = said_before order ++ said_of Live station_of most_steps order pairs
+
+  -- it begins, and its log has these cones and bounds and no other lines
+  abbrev pub IsBeginning : SearchState → List Evidence → Type 0
+  IsBeginning s known =
+      searching.IsBeginning q.aim station_of most_steps q.budgets s.solver.arena s.solver.recorder s.solver.learnt.items s.solver.vars s.solver.derives
+      s.failed.items s.sum s.steps known
 
   -- ---- the search
 

@@ -5,6 +5,7 @@ use Rattle.log_checker.specs.declared.check_result.CheckResult.TheVariants.{Yes}
 use Rattle.base_spec.specs.Bases.{HasModelFor}
 use Rattle.clause_spec.specs.Clauses.{past_limit}
 use Rattle.clause_spec.specs.declared.question.VariableCounts.{VariableCounts}
+use Rattle.order_bounds.specs.Orders.{orders_first}
 use Rattle.plan_exclusion.specs.Exclusions.{head_for}
 use Rattle.plan_exclusion.specs.Failures.{IsRefutedBy, clauses_of_evidence}
 use Rattle.proof_judge.specs.Judged.{all_live, clauses_under, judged, refuted, variables_under}
@@ -77,6 +78,14 @@ module _ (m : Aim) (d : Station) (n : ℕ) where
   abbrev pub clauses_with : List Evidence → List (List Lit)
   clauses_with known = first_clauses ++ flat_map (clauses_of_evidence m.base d n) known
 
+  -- the bounds by orders, which come before the first plan
+  abbrev pub known_first : List Evidence
+  known_first = orders_first m.base d n
+
+  -- what is known where these plans failed
+  abbrev pub known_after : List Refutal → List Evidence
+  known_after rs = known_first ++ evidence_in rs
+
   -- ---- plans that fail
 
   -- a plan that can be carried out, and values of it that make the clauses true, those of these cones and bounds too
@@ -84,7 +93,7 @@ module _ (m : Aim) (d : Station) (n : ℕ) where
     pub runnable : IsRunnable d (routes_of d) n plan
     pub model : HasModelFor m.base d (routes_of d) n plan (clauses_with known)
 
-  -- each plan fails, and was found where the cones and bounds of those before were known, besides these
+  -- each plan fails, and was found where the cones and bounds of those before were known, behind these
   abbrev pub AreRefuted : List Evidence → List Refutal → Type 0
   AreRefuted known [] = Unit {0}
   AreRefuted known (r ∷ rs) =
@@ -92,10 +101,22 @@ module _ (m : Aim) (d : Station) (n : ℕ) where
 
   -- ---- logs
 
-  -- the cones and bounds of these lines are those of plans that failed
+  -- the cones and bounds of these lines are the bounds by orders, and then those of plans that failed
   pub record AreOfFailedPlans (lines : List LogLine) (rs : List Refutal) : Type 0 where
-    pub evidence : evidence_of lines ≡ evidence_in rs
-    pub refuted : AreRefuted [] rs
+    pub evidence : evidence_of lines ≡ known_after rs
+    pub refuted : AreRefuted known_first rs
+
+  -- a log with the first of the bounds by orders and no other line, and the length of the line of the next one
+  pub record IsBegun (log : List ℕ) (next : ℕ) : Type 0 where
+    pub before : List Evidence
+    pub at : Evidence
+    pub behind : List Evidence
+    pub first : known_first ≡ before ++ at ∷ behind
+    pub lines : List LogLine
+    pub run : IsRunLog head (refuted m.base d n) vars base lines log
+    pub evidence : evidence_of lines ≡ before
+    pub none_learnt : learnt_count lines ≡ 0
+    pub next_is : next ≡ length (ended (text_of_line (Refute at)))
 
   -- a log of the search, with these lines and plans that failed
   pub record IsLog (lines : List LogLine) (rs : List Refutal) (log : List ℕ) : Type 0 where
@@ -110,7 +131,7 @@ module _ (m : Aim) (d : Station) (n : ℕ) where
   abbrev pub IsNextLine : List LogLine → List Refutal → ℕ → Type 0
   IsNextLine lines rs next =
       ((line : Derived) × IsNextDerived lines line × (next ≡ length (derived_text line)))
-      ⊎ ((r : Refutal) × IsFound (evidence_in rs) r.plan × IsRefutedBy d r.plan r.evidence
+      ⊎ ((r : Refutal) × IsFound (known_after rs) r.plan × IsRefutedBy d r.plan r.evidence
       × (next ≡ length (ended (text_of_line (Refute r.evidence)))))
 
   -- ---- budgets
@@ -125,16 +146,18 @@ module _ (m : Aim) (d : Station) (n : ℕ) where
     pub lines : List LogLine
     pub rs : List Refutal
     pub log : IsLog lines rs (log_text head lines)
-    pub found : IsFound (evidence_in rs) plan
+    pub found : IsFound (known_after rs) plan
     pub within : IsWithin b lines (plans_of rs ++ plan ∷ [])
 
-  -- the log is empty, and there is no room for the head; or it is a log of the search, and there is none for a next line
+  -- the log is empty, and there is no room for the head; or it has some bounds by orders, and there is none for the next one;
+  -- or it is a log of the search, and there is none for a next line
   abbrev pub IsFull : Budgets → List ℕ → ℕ → ℕ → Type 0
   IsFull b log bytes next =
       (bytes ≡ length log) × (b.log_bytes < bytes + next)
       × (((log ≡ []) × (next ≡ length (ended (head_text head))))
+      ⊎ (IsBegun log next
       ⊎ ((lines : List LogLine) × (rs : List Refutal) × IsLog lines rs log × IsWithin b lines (plans_of rs)
-      × IsNextLine lines rs next))
+      × IsNextLine lines rs next)))
 
   -- a log of the search with the line that ends it, which is a file that shows that there is no plan of n steps
   pub record IsProof (b : Budgets) (log : List ℕ) : Type 0 where
@@ -159,7 +182,7 @@ module _ (m : Aim) (d : Station) (n : ℕ) where
       (lines : List LogLine) × (rs : List Refutal) × IsLog lines rs (log_text head lines)
       × IsWithin b lines (plans_of rs)
       × (map (λ (p : PlanOf). p.steps) failed.items ≡ plans_of rs) × (sum ≡ cost_of d n (plans_of rs))
-      × IsFound (evidence_in rs) at_hand.steps × (b.ticks < sum + cost d (routes_of d) at_hand.steps)
+      × IsFound (known_after rs) at_hand.steps × (b.ticks < sum + cost d (routes_of d) at_hand.steps)
   IsOutcome b (LogSpent log bytes next) = IsFull b log.items bytes next
   IsOutcome b (TooLarge literals) = past_limit 16000000 0 first_clauses ≡ Some literals
   IsOutcome b Memory = Unit {0}
@@ -170,6 +193,7 @@ module _ (m : Aim) (d : Station) (n : ℕ) where
   Fits Memory = Unit {0}
   Fits _ = past_limit 16000000 0 first_clauses ≡ None
 
--- plans that are refuted so, from no evidence on, differ
+-- plans that are refuted so, whatever was known at first, differ
 abbrev pub RefutedDiffer : Aim → Station → Type 0
-RefutedDiffer m d = (n : ℕ) → 1 ≤ n → (rs : List Refutal) → AreRefuted m d n [] rs → Differ (plans_of rs)
+RefutedDiffer m d =
+    (n : ℕ) → 1 ≤ n → (known : List Evidence) (rs : List Refutal) → AreRefuted m d n known rs → Differ (plans_of rs)

@@ -18,8 +18,9 @@ use interlocking::Interlocking;
 use log_recorder::Text;
 use plan_decoder::decode;
 use plan_encoding::Numbering;
-use plan_exclusion::{Exclusion, FailedPlan};
+use plan_exclusion::FailedPlan;
 use plan_run::simulate;
+use proof_judge::{ByDesign, EvidenceLine};
 use rail_base::history::{History, Verdict};
 use rail_base::plan::{Plan, Violation};
 use rail_outside::Sink;
@@ -61,7 +62,8 @@ pub(crate) struct PlanSearch<'a> {
 
 impl PlanSearch<'_> {
     ghost use Rattle.verify_loop.specs.Asking.{EndsWith, Excludes, GoesOn, IsAtPlan, IsDenied, IsOpen, IsSearch};
-    ghost use Rattle.verify_loop.specs.Asking.{AreValuesFor, TellsHowFar, WasFound, given_by, ticks_of, variables};
+    ghost use Rattle.verify_loop.specs.Asking.{AreValuesFor, IsAdded, IsLeftOut, ShowsSome, TellsHowFar, WasFound};
+    ghost use Rattle.verify_loop.specs.Asking.{given_by, ticks_of, variables};
 
     /// Round after round, each of which but the last excludes a plan that fails.
     pub(crate) fn run_rounds<P: Sink>(&self, search: SearchState, progress: &mut P) -> Outcome
@@ -101,6 +103,32 @@ impl PlanSearch<'_> {
         }
     }
 
+    /// The commands that the base speaks of.
+    fn contention(&self) -> Contention<'_>
+        ensures interlocking { result.interlocking.now ≡ self.now.interlocking.now }
+        ensures commands { result.pairs.now.commands ≡ self.now.numbering.now.commands }
+        ensures pairs { result.pairs.now.pairs ≡ self.now.numbering.now.pairs }
+    {
+        Contention {
+            interlocking: self.interlocking,
+            pairs: self.numbering.pairs(),
+        }
+    }
+
+    /// What the design says of cones and bounds.
+    pub(crate) fn by_design(&self) -> ByDesign<'_>
+        ensures interlocking { result.contention.interlocking.now ≡ self.now.interlocking.now }
+        ensures pairs { result.contention.pairs.now.pairs ≡ self.now.numbering.now.pairs }
+        ensures kind { result.kind ≡ self.now.aim.base }
+        ensures steps { result.steps.count ≡ self.now.numbering.now.steps }
+    {
+        ByDesign {
+            contention: self.contention(),
+            kind: self.aim.base,
+            steps: self.numbering.steps(),
+        }
+    }
+
     /// What excludes a plan that was found and fails.
     fn exclusion_of<'b>(
         &self,
@@ -110,18 +138,14 @@ impl PlanSearch<'_> {
         history: &'b History,
         tick: u64,
         violation: Violation,
-    ) -> Result<Exclusion, AllocError>
+    ) -> Result<EvidenceLine, AllocError>
         requires found { WasFound self.now plan.now.steps }
         requires are_values { AreValuesFor self.now values.now plan.now.steps }
         requires fails { FailsSo self.now.interlocking.now.design.station plan.now.steps history.now tick violation }
         ensures { IfOk result (Excludes self.now plan.now.steps) }
     {
-        let contention = Contention {
-            interlocking: self.interlocking,
-            pairs: self.numbering.pairs(),
-        };
         let failed = FailedPlan {
-            contention,
+            contention: self.contention(),
             kind: self.aim.base,
             steps: self.numbering.steps(),
             plan,
@@ -133,13 +157,38 @@ impl PlanSearch<'_> {
         failed.exclusion(self.alloc, finder)
     }
 
+    /// The search with the clause of a cone or a bound, and its log with the line, where there is room for it.
+    pub(crate) fn add_line(
+        &self,
+        search: SearchState,
+        line: &EvidenceLine,
+    ) -> Result<SearchState, Outcome>
+        requires shown { ShowsSome self.now line.now }
+        requires vars { search.solver.vars ≡ (variables self.now).count }
+        ensures added { IfOk result (IsAdded search line.now) }
+        ensures left { IfErr result (IsLeftOut search line.now) }
+    {
+        let mut search = search;
+        let bytes = line.line.as_slice();
+        let next = bytes.len() as u64 + 1;
+        if !search.solver.recorder().room(next) {
+            let log = log_of(search.solver);
+            let bytes = log.as_slice().len() as u64;
+            return Err(Outcome::LogSpent { log, bytes, next });
+        }
+        match search.solver.add_clause(bytes, line.clause.as_slice()) {
+            Ok(_id) => Ok(search),
+            Err(_) => Err(Outcome::Memory),
+        }
+    }
+
     /// The search with the clause that excludes a plan that fails at this tick, where the log has room for its line.
     fn exclude_plan(
         &self,
         search: SearchState,
         plan: Plan,
         tick: u64,
-        exclusion: &Exclusion,
+        exclusion: &EvidenceLine,
     ) -> Result<SearchState, Outcome>
         requires state { IsAtPlan self.now search plan.steps }
         requires excludes { Excludes self.now plan.steps exclusion.now }
@@ -149,18 +198,11 @@ impl PlanSearch<'_> {
         ensures goes_on { IfOk result (GoesOn self.now search) }
         ensures ends { IfErr result (EndsWith self.now) }
     {
-        let mut search = search;
         // The sum stays within these.
         let _ticks = self.budgets.ticks;
-        let line = exclusion.line.as_slice();
-        let next = line.len() as u64 + 1;
-        if !search.solver.recorder().room(next) {
-            let log = log_of(search.solver);
-            let bytes = log.as_slice().len() as u64;
-            return Err(Outcome::LogSpent { log, bytes, next });
-        }
-        let Ok(_id) = search.solver.add_clause(line, exclusion.clause.as_slice()) else {
-            return Err(Outcome::Memory);
+        let mut search = match self.add_line(search, exclusion) {
+            Ok(search) => search,
+            Err(outcome) => return Err(outcome),
         };
         let Ok(()) = search.failed.push(plan) else {
             return Err(Outcome::Memory);

@@ -1,6 +1,5 @@
-use Rattle.std.proofs.Common.{[]}
 use Rattle.verify_loop.proofs.Differing.{plans_differ}
 use Rattle.verify_loop.proofs.laws.refuted_plans_differ.Goals as goal
 
 pub returns : goal.returns
-returns c = λ m d good n some rs refuted. plans_differ m d good n some [] rs refuted
+returns c = λ m d good n some known rs refuted. plans_differ m d good n some known rs refuted

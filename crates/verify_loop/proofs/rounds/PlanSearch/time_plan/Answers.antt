@@ -6,7 +6,7 @@ use Rattle.rail_base.proofs.Admitting.{admitted}
 use Rattle.rail_spec.specs.Histories.{verdict_of}
 use Rattle.rail_spec.specs.Track.{routes_of}
 use Rattle.rail_laws.proofs.Verdicts.{verdict}
-use Rattle.verify_loop.specs.Outcomes.{evidence_in}
+use Rattle.verify_loop.specs.Outcomes.{known_after}
 use Rattle.verify_loop.proofs.Timing.{decided_early, undecided_late, by_horizon, met_feasible, failed_tick, over_routes}
 use Rattle.verify_loop.proofs.Fewer.{none_below_less}
 use Rattle.verify_loop.proofs.Within.{within_so, log_told, reached_so}
@@ -21,7 +21,9 @@ exclusion_of-requires-clause-fails c =
     (sym (over_routes d c.args.self.now.interlocking.now.routes c.args.plan.steps left c.in-Ok-Failed.field-0 v c.args.self.now.interlocking.now.table c.in-Ok-Failed.ensures.value c.in-Ok-Failed.field-0-is))
 
 pub exclusion_of-requires-clause-found : goal.exclusion_of-requires-clause-found
-exclusion_of-requires-clause-found c = (evidence_in c.requires.at.search.rs, c.requires.at.found)
+exclusion_of-requires-clause-found c =
+    let q = c.args.self.now in
+    (known_after q.aim q.interlocking.now.design.station q.numbering.now.steps c.requires.at.search.rs, c.requires.at.found)
 
 pub exclude_plan-requires-clause-tick : goal.exclude_plan-requires-clause-tick
 exclude_plan-requires-clause-tick c =
