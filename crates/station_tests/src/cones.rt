@@ -128,18 +128,42 @@ fn no_trains(alloc: Global, visit: u32) -> Cone {
     }
 }
 
+/// Whether the design has what a cone names of which so many commands are free.
+fn is_there(alloc: Global, interlocking: &Interlocking, free: u32) -> Result<bool, AllocError> {
+    let cone = cone_of(alloc, free)?;
+    is_in_design(alloc, interlocking, &cone)
+}
+
+/// Whether the first route is free in a cone of which so many commands are.
+fn is_first_free(alloc: Global, free: u32) -> Result<bool, AllocError> {
+    let cone = cone_of(alloc, free)?;
+    Ok(is_free(&cone, first_route(1)))
+}
+
+/// Whether the design has the visit that a cone of no train names.
+fn is_visit(alloc: Global, interlocking: &Interlocking, visit: u32) -> Result<bool, AllocError> {
+    let cone = no_trains(alloc, visit);
+    is_in_design(alloc, interlocking, &cone)
+}
+
 #[test]
 fn cones_of_a_design(rt: HostRuntime) -> Result<(), AllocError> {
     let alloc = rt.alloc();
     let interlocking = one_route(alloc)?;
     for (free, fits) in [(0, true), (1, true), (2, false)] {
-        let cone = cone_of(alloc, free)?;
-        assert_eq!(rt; is_in_design(alloc, &interlocking, &cone)?, fits, "{free}");
-        assert_eq!(rt; is_free(&cone, first_route(1)), free > 0, "{free}");
+        assert_eq!(rt; is_there(alloc, &interlocking, free)?, fits, "{free}");
     }
     for (visit, fits) in [(2, true), (3, false)] {
-        let cone = no_trains(alloc, visit);
-        assert_eq!(rt; is_in_design(alloc, &interlocking, &cone)?, fits, "{visit}");
+        assert_eq!(rt; is_visit(alloc, &interlocking, visit)?, fits, "{visit}");
+    }
+    Ok(())
+}
+
+#[test]
+fn free_commands_of_a_cone(rt: HostRuntime) -> Result<(), AllocError> {
+    let alloc = rt.alloc();
+    for free in 0..3 {
+        assert_eq!(rt; is_first_free(alloc, free)?, free > 0, "{free}");
     }
     Ok(())
 }
