@@ -16,12 +16,15 @@ use Rattle.rail_spec.specs.Track.{routes_of}
 use Rattle.rail_spec.specs.Plans.{route_numbers, has_command, step_of, commands}
 use Rattle.rail_spec.specs.Feasible.{IsWellFormed, IsFeasible, IsInfeasible}
 use Rattle.rail_alike.specs.Renaming.{first_step}
-use Rattle.rail_alike.specs.Tests.{neighbors}
-use Rattle.rail_alike.specs.Turns.{AreNamed, InTurn}
+use Rattle.rail_alike.specs.Turns.{AreNamed, ArePairs, InTurn}
 use Rattle.rail_alike.proofs.Beginnings as told
-use Rattle.rail_alike.proofs.Next.{all_come_in_turn, neighbors_alike, neighbors_named}
+use Rattle.rail_alike.proofs.Next.{neighbors_alike}
+use Rattle.rail_alike.proofs.Beside.{beside_alike}
+use Rattle.rail_alike.proofs.Turns.{has_in_turn}
 use Rattle.sat_clause.specs.declared.lit.Lit.{Lit}
 use Rattle.sat_clause.specs.Clauses.{clause_holds}
+use Rattle.clause_spec.specs.declared.question.Turns.{Turns}
+use Rattle.clause_spec.specs.declared.question.Turns.TheVariants.{All, Beside}
 use Rattle.clause_spec.specs.Variables.{Given, By, Literal, yes, number_of, numbered}
 use Rattle.clause_spec.specs.Clauses.{Clause, base_clauses}
 use Rattle.clause_spec.specs.Models.{holds, is_so, model_of}
@@ -31,8 +34,16 @@ use Rattle.clause_spec.proofs.Truth.{Fails, at_clause, no_false, yes_false}
 use Rattle.clause_spec.proofs.Steps.{step_high}
 use Rattle.clause_spec.proofs.Theorems.{feasible_plans_are_models}
 use Rattle.clause_spec.proofs.Shown.{short_enough, more_feasible}
-use Rattle.alike_clause_spec.specs.Turns.{begins, beginnings, has_begun, in_turn, turn_clauses}
+use Rattle.alike_clause_spec.specs.Turns.{begins, beginnings, has_begun, in_turn, turn_clauses, turn_pairs}
 use Rattle.alike_clause_spec.specs.Sorted.{HasSortedModel, NoneSortedBy, AreSound, sorted_base}
+
+-- the pairs that come in turn are of trains that are alike
+pub turns_alike : (turns : Turns) (d : Station) → ArePairs d (turn_pairs turns d)
+turns_alike All d = neighbors_alike d
+turns_alike (Beside w) d = beside_alike d w
+
+pub turns_named : (turns : Turns) (d : Station) → AreNamed d (turn_pairs turns d)
+turns_named turns d p m = let a = (turns_alike turns d p m).0 in (a.one, a.other)
 
 module _ (d : Station) (routes : List Route) (n : ℕ) where
   abbrev give : TrainNo → RouteNo → Command
@@ -100,10 +111,10 @@ module _ (d : Station) (routes : List Route) (n : ℕ) where
 
 -- ---- the sorted base
 
-module _ (d : Station) (n k : ℕ) (some : 1 ≤ k) (within : k ≤ n) where
-  pub has_model : (plan : List (List Command)) → IsFeasible d k plan → HasSortedModel d n k
+module _ (turns : Turns) (d : Station) (n k : ℕ) (some : 1 ≤ k) (within : k ≤ n) where
+  pub has_model : (plan : List (List Command)) → IsFeasible d k plan → HasSortedModel turns d n k
   has_model plan f =
-      let h = all_come_in_turn d k plan f in
+      let h = has_in_turn d k (turn_pairs turns d) (turns_alike turns d) plan f in
       let g = more_feasible d k n h.plan within h.feasible in
       let short = short_enough d (routes_of d) k h.plan h.feasible.runnable.well_formed.formed in
       let by_then : is_so h.plan (By k) ≡ true = list_all_from (λ c. nat_le (step_of h.plan c) k) (commands h.plan) (λ c m. (let high = step_high h.plan c m in le-leb (step_of h.plan c) k (omega arith))) in
@@ -111,15 +122,15 @@ module _ (d : Station) (n k : ℕ) (some : 1 ≤ k) (within : k ≤ n) where
         plan = h.plan;
         feasible = g;
         holds =
-            list_all-append (clause_holds (model_of d (routes_of d) n h.plan)) (base_clauses d (routes_of d) n) (turn_clauses d (routes_of d) n (neighbors d))
+            list_all-append (clause_holds (model_of d (routes_of d) n h.plan)) (base_clauses d (routes_of d) n) (turn_clauses d (routes_of d) n (turn_pairs turns d))
             ∙ and_both _ _ (feasible_plans_are_models d n h.plan (omega arith) g)
-            (turns_hold d (routes_of d) n h.plan g.runnable.well_formed (neighbors d) (neighbors_named d) (λ p m. (let a = neighbors_alike d p m in h.in_turn p.0 p.1 a.0 a.1)));
+            (turns_hold d (routes_of d) n h.plan g.runnable.well_formed (turn_pairs turns d) (turns_named turns d) h.in_turn);
         by = model_says d (routes_of d) n h.plan (By k) (some, within) ∙ by_then;
       }
 
-  pub none_sorted : (more : List (List Lit)) → AreSound d n more → NoneSortedBy d n k more → IsInfeasible d k
+  pub none_sorted : (more : List (List Lit)) → AreSound d n more → NoneSortedBy turns d n k more → IsInfeasible d k
   none_sorted more sound none plan f =
       let m = has_model plan f in
       none (model_of d (routes_of d) n m.plan)
-      (list_all-append (clause_holds (model_of d (routes_of d) n m.plan)) (sorted_base d (routes_of d) n) more ∙ and_both _ _ m.holds (sound m.plan m.feasible))
+      (list_all-append (clause_holds (model_of d (routes_of d) n m.plan)) (sorted_base turns d (routes_of d) n) more ∙ and_both _ _ m.holds (sound m.plan m.feasible))
       m.by

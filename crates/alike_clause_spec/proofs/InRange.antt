@@ -6,17 +6,16 @@ use Rattle.rail_base.specs.declared.route.Route.{Route}
 use Rattle.rail_base.specs.declared.route.RouteNo.{RouteNo}
 use Rattle.rail_base.specs.Members.{In}
 use Rattle.rail_base.proofs.Lists.{in_append, in_map_back, in_flat_map_back}
-use Rattle.rail_alike.specs.Tests.{neighbors}
 use Rattle.rail_alike.specs.Turns.{AreNamed}
-use Rattle.rail_alike.proofs.Next.{neighbors_named}
 use Rattle.sat_clause.specs.declared.lit.Lit.{Lit}
+use Rattle.clause_spec.specs.declared.question.Turns.{Turns}
 use Rattle.clause_spec.specs.Variables.{Given, Literal, yes, numbered, variable_count}
 use Rattle.clause_spec.specs.Clauses.{Clause, base_clauses}
 use Rattle.clause_spec.proofs.InRange.{IsEarly, literals_in_range, number_below}
 use Rattle.clause_spec.proofs.Numbers.{number_low}
-use Rattle.alike_clause_spec.specs.Turns.{beginnings, has_begun, in_turn, turn_clauses}
+use Rattle.alike_clause_spec.specs.Turns.{beginnings, has_begun, in_turn, turn_clauses, turn_pairs}
 use Rattle.alike_clause_spec.specs.Sorted.{AreInRange, sorted_base}
-use Rattle.alike_clause_spec.proofs.Holding.{OfPair, of_pair, all_known}
+use Rattle.alike_clause_spec.proofs.Holding.{OfPair, of_pair, all_known, turns_named}
 
 module _ (d : Station) (routes : List Route) (n : ℕ) where
   -- no literal of a pair says that all is given by a step
@@ -47,9 +46,9 @@ module _ (d : Station) (routes : List Route) (n : ℕ) where
       clause : ((cl : Clause) × In cl (flat_map (in_turn d routes n) pairs) × (map (numbered d routes n) cl ≡ c)) → (1 ≤ l.var) × (l.var < variable_count d routes n)
       clause (cl, k, e) = pair cl (subst (λ (x : List Lit). In l x) (sym e) i) (in_flat_map_back (in_turn d routes n) pairs cl k)
 
-  pub sorted_in_range : 1 ≤ n → AreInRange d routes n (sorted_base d routes n)
-  sorted_in_range some c m l i = go (in_append c (base_clauses d routes n) (turn_clauses d routes n (neighbors d)) m)
+  pub sorted_in_range : (turns : Turns) → 1 ≤ n → AreInRange d routes n (sorted_base turns d routes n)
+  sorted_in_range turns some c m l i = go (in_append c (base_clauses d routes n) (turn_clauses d routes n (turn_pairs turns d)) m)
     where
-      go : In c (base_clauses d routes n) ⊎ In c (turn_clauses d routes n (neighbors d)) → (1 ≤ l.var) × (l.var < variable_count d routes n)
+      go : In c (base_clauses d routes n) ⊎ In c (turn_clauses d routes n (turn_pairs turns d)) → (1 ≤ l.var) × (l.var < variable_count d routes n)
       go (inl k) = literals_in_range d routes n some c k l i
-      go (inr k) = turns_in_range some (neighbors d) (neighbors_named d) c k l i
+      go (inr k) = turns_in_range some (turn_pairs turns d) (turns_named turns d) c k l i

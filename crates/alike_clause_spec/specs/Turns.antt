@@ -1,4 +1,5 @@
--- Clauses that say of pairs of trains that the first is given its first command in a step no later than the other's.
+-- Which pairs of trains come in turn, and clauses that say of pairs that the first is given its first command in a step
+-- no later than the other's.
 use Rattle.std.specs.Prelude.{ℕ, Bool, List, ◌∷◌, map, filter, flat_map, ◌≡◌, true}
 use Rattle.rail_base.specs.declared.station.Station.{Station}
 use Rattle.rail_base.specs.declared.station.TrainNo.{TrainNo}
@@ -8,13 +9,21 @@ use Rattle.rail_base.specs.Numbering.{one_to}
 use Rattle.rail_base.specs.Stations.{train_of, first_visit}
 use Rattle.rail_spec.specs.Plans.{route_at, starts_in, route_numbers}
 use Rattle.sat_clause.specs.declared.lit.Lit.{Lit}
+use Rattle.clause_spec.specs.declared.question.Turns.{Turns}
+use Rattle.clause_spec.specs.declared.question.Turns.TheVariants.{All, Beside}
 use Rattle.clause_spec.specs.Variables.{Given, yes, no, numbered}
 use Rattle.clause_spec.specs.Clauses.{Clause}
 use Rattle.std.specs.List.{list_all}
 use Rattle.rail_base.specs.declared.plan.Command.{Command}
+use Rattle.rail_alike.specs.Tests.{neighbors, neighbors_beside}
 use Rattle.rail_alike.specs.Turns.{AreNamed, InTurn}
 use Rattle.sat_clause.specs.Clauses.{clause_holds}
 use Rattle.clause_spec.specs.Models.{model_of}
+
+-- each train with the next one that is like it: of all of them, or of those that a within doesn't name
+abbrev pub turn_pairs : Turns → Station → List (TrainNo × TrainNo)
+turn_pairs All d = neighbors d
+turn_pairs (Beside w) d = neighbors_beside d w
 
 module _ (d : Station) (routes : List Route) (n : ℕ) where
   -- the train may begin with the route

@@ -7,18 +7,18 @@ use Rattle.rail_base.specs.declared.route.Route.{Route}
 use Rattle.rail_base.specs.declared.plan.Command.{Command}
 use Rattle.rail_base.proofs.Members.{In, and_left, and_right, and_both, list_all_at}
 use Rattle.rail_base.proofs.Lists.{in_map_back, list_all_from}
-use Rattle.rail_alike.specs.Tests.{neighbors}
 use Rattle.sat_clause.specs.declared.lit.Lit.{Lit}
 use Rattle.sat_clause.specs.Clauses.{lit_holds, clause_holds}
 use Rattle.clause_spec.specs.declared.question.BaseKind.{BaseKind}
 use Rattle.clause_spec.specs.declared.question.BaseKind.TheVariants.{Plain, Sorted, Normal, Live}
+use Rattle.clause_spec.specs.declared.question.Turns.TheVariants.{All}
 use Rattle.clause_spec.specs.Variables.{numbered, variable_count}
 use Rattle.clause_spec.specs.Clauses.{Clause, base_clauses}
 use Rattle.clause_spec.specs.Models.{model_of}
 use Rattle.clause_spec.proofs.Families.{KnownAll}
 use Rattle.clause_spec.proofs.InRange.{literals_in_range}
 use Rattle.clause_spec.proofs.Variables.{number_high}
-use Rattle.alike_clause_spec.specs.Turns.{turn_clauses}
+use Rattle.alike_clause_spec.specs.Turns.{turn_clauses, turn_pairs}
 use Rattle.normal_clause_spec.specs.Variables.{normal_numbered}
 use Rattle.normal_clause_spec.specs.Clauses.{normal_clauses}
 use Rattle.live_clause_spec.specs.Live.{is_live}
@@ -89,10 +89,10 @@ base_over d routes n some c m l i = let r = literals_in_range d routes n some c 
 -- each base begins with it
 pub begins_with_plain : (kind : BaseKind) (d : Station) (routes : List Route) (n : ℕ) → 1 ≤ n → BeginsWithPlain kind d routes n
 begins_with_plain Plain d routes n some values h = h
-begins_with_plain Sorted d routes n some values h = first_true values (base_clauses d routes n) (turn_clauses d routes n (neighbors d)) h
+begins_with_plain Sorted d routes n some values h = first_true values (base_clauses d routes n) (turn_clauses d routes n (turn_pairs All d)) h
 begins_with_plain Normal d routes n some values h = first_true values (base_clauses d routes n) (map (map (normal_numbered d routes n)) (normal_clauses d routes n)) h
-begins_with_plain Live d routes n some values h =
-    first_true (spread (is_live d routes) d routes n values) (base_clauses d routes n) (turn_clauses d routes n (neighbors d)) (sym (base_spread (is_live d routes) d routes n some values) ∙ h)
+begins_with_plain (Live turns) d routes n some values h =
+    first_true (spread (is_live d routes) d routes n values) (base_clauses d routes n) (turn_clauses d routes n (turn_pairs turns d)) (sym (base_spread turns (is_live d routes) d routes n some values) ∙ h)
 
 -- a plan with a model for a base makes the plain base true
 pub plain_holds : (kind : BaseKind) (d : Station) (routes : List Route) (n : ℕ) (plan : List (List Command)) → 1 ≤ n → HasModelFor kind d routes n plan (clauses_of kind d routes n)

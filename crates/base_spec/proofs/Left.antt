@@ -1,5 +1,5 @@
 -- What is left of a clause in each base: when it is true, and which variables it has.
-use Rattle.std.proofs.Common.{◌≡◌, ℕ, ◌+◌, ◌≤◌, ◌⊎◌, inl, inr, Bool, true, false, cond, ◌&&◌, ◌||◌, if◌then◌else◌, List, [], ◌∷◌, map, Option, Some, None, refl, sym, ap, subst, ◌∙◌, arith, true≢false}
+use Rattle.std.proofs.Common.{◌≡◌, ℕ, ◌+◌, ◌≤◌, ◌⊎◌, inl, inr, Bool, true, false, cond, ◌&&◌, ◌||◌, if◌then◌else◌, List, [], ◌∷◌, map, Some, None, refl, sym, ap, subst, ◌∙◌, arith, true≢false}
 use Rattle.std.specs.Prelude.{◌≢◌, not}
 use Rattle.rail_base.specs.declared.station.Station.{Station}
 use Rattle.rail_base.specs.declared.route.Route.{Route}
@@ -10,6 +10,7 @@ use Rattle.sat_clause.specs.declared.lit.Lit.{Lit}
 use Rattle.sat_clause.specs.Clauses.{clause_holds}
 use Rattle.clause_spec.specs.declared.question.BaseKind.{BaseKind}
 use Rattle.clause_spec.specs.declared.question.BaseKind.TheVariants.{Plain, Sorted, Normal, Live}
+use Rattle.clause_spec.specs.declared.question.Turns.{Turns}
 use Rattle.clause_spec.specs.Variables.{Variable, By, Literal, numbered, number_of, variable_count}
 use Rattle.clause_spec.specs.Clauses.{Clause}
 use Rattle.clause_spec.specs.Models.{model_of}
@@ -30,8 +31,8 @@ some_same p = cc
 
 module _ (d : Station) (routes : List Route) (n : ℕ) (cl : Clause) (c : List Lit) where
   -- where something is left of it in the live base, nothing dead is denied
-  live_left : left_in Live d routes n cl ≡ Some c → (denies_dead (is_live d routes) cl ≡ false) × (map (live_numbered (is_live d routes) d routes n) (without_dead (is_live d routes) cl) ≡ c)
-  live_left = go (denies_dead (is_live d routes) cl)
+  live_left : (turns : Turns) → left_in (Live turns) d routes n cl ≡ Some c → (denies_dead (is_live d routes) cl ≡ false) × (map (live_numbered (is_live d routes) d routes n) (without_dead (is_live d routes) cl) ≡ c)
+  live_left turns = go (denies_dead (is_live d routes) cl)
     where
       go : (b : Bool) → (if b then None else Some (map (live_numbered (is_live d routes) d routes n) (without_dead (is_live d routes) cl))) ≡ Some c
           → (b ≡ false) × (map (live_numbered (is_live d routes) d routes n) (without_dead (is_live d routes) cl) ≡ c)
@@ -46,8 +47,8 @@ module _ (d : Station) (routes : List Route) (n : ℕ) (cl : Clause) (c : List L
     left_on_plain Plain e values = ap (clause_holds values) (sym (some_same e))
     left_on_plain Sorted e values = ap (clause_holds values) (sym (some_same e))
     left_on_plain Normal e values = ap (clause_holds values) (sym (some_same e))
-    left_on_plain Live e values =
-        let l = live_left e in
+    left_on_plain (Live turns) e values =
+        let l = live_left turns e in
         ap (clause_holds values) (sym l.1) ∙ clause_spread (is_live d routes) d routes n values cl known l.0
 
     -- those of a plan make it true where the clause is true of the plan
@@ -74,15 +75,15 @@ module _ (d : Station) (routes : List Route) (n : ℕ) (cl : Clause) (c : List L
             (λ same. early f.0 f.1 (one_number d routes n f.0.variable (By n) k (some, last) same)),
           )
 
-      live_in : (l : Lit) → In l (map (live_numbered (is_live d routes) d routes n) (without_dead (is_live d routes) cl)) → IsIn Live l.var
-      live_in l i =
+      live_in : (turns : Turns) (l : Lit) → In l (map (live_numbered (is_live d routes) d routes n) (without_dead (is_live d routes) cl)) → IsIn (Live turns) l.var
+      live_in turns l i =
           let live = is_live d routes in
           let f = in_map_back (live_numbered live d routes n) (without_dead live cl) l i in
           let g = in_filter_back (λ (x : Literal). not (is_dead live x.variable)) cl f.0 f.1 in
           let k = known f.0 g.0 in
           let alive = not_true (is_dead live f.0.variable) g.1 in
           let last : n ≤ n = omega arith in
-          subst (λ (x : Lit). IsIn Live x.var) f.2 (
+          subst (λ (x : Lit). IsIn (Live turns) x.var) f.2 (
             live_number_low live d routes n f.0.variable k alive,
             live_number_high live d routes n f.0.variable k alive,
             (λ same. early f.0 g.0 (one_live_number live d routes n f.0.variable (By n) k alive (some, last) (let r : is_dead live (By n) ≡ false = refl in r) same)),
@@ -93,17 +94,17 @@ module _ (d : Station) (routes : List Route) (n : ℕ) (cl : Clause) (c : List L
       left_in_range Plain e l i = plain_in l (subst (λ (x : List Lit). In l x) (sym (some_same e)) i)
       left_in_range Sorted e l i = plain_in l (subst (λ (x : List Lit). In l x) (sym (some_same e)) i)
       left_in_range Normal e l i = plain_in l (subst (λ (x : List Lit). In l x) (sym (some_same e)) i)
-      left_in_range Live e l i = live_in l (subst (λ (x : List Lit). In l x) (sym (live_left e).1) i)
+      left_in_range (Live turns) e l i = live_in turns l (subst (λ (x : List Lit). In l x) (sym (live_left turns e).1) i)
 
 -- ---- what is denied
 
 module _ (d : Station) (routes : List Route) (n : ℕ) (cl : Clause) (known : KnownAll d routes n cl) where
   -- values of the live base make it true, with dead variables false, where it denies what is dead
-  denied_true : (values : ℕ → Bool) → denies_dead (is_live d routes) cl ≡ true → clause_holds (on_plain Live d routes n values) (map (numbered d routes n) cl) ≡ true
-  denied_true values h = go cl known h
+  denied_true : (turns : Turns) (values : ℕ → Bool) → denies_dead (is_live d routes) cl ≡ true → clause_holds (on_plain (Live turns) d routes n values) (map (numbered d routes n) cl) ≡ true
+  denied_true turns values h = go cl known h
     where
       says : Variable → Bool
-      says v = on_plain Live d routes n values (number_of d routes n v)
+      says v = on_plain (Live turns) d routes n values (number_of d routes n v)
 
       one : (l : Literal) → Known d routes n l.variable → (l.negated && is_dead (is_live d routes) l.variable) ≡ true → cond l.negated (not (says l.variable)) (says l.variable) ≡ true
       one l k e =
@@ -122,11 +123,11 @@ module _ (d : Station) (routes : List Route) (n : ℕ) (cl : Clause) (known : Kn
       split true b e = inl refl
       split false b e = inr e
 
-      go : (ls : Clause) → KnownAll d routes n ls → denies_dead (is_live d routes) ls ≡ true → clause_holds (on_plain Live d routes n values) (map (numbered d routes n) ls) ≡ true
+      go : (ls : Clause) → KnownAll d routes n ls → denies_dead (is_live d routes) ls ≡ true → clause_holds (on_plain (Live turns) d routes n values) (map (numbered d routes n) ls) ≡ true
       go [] known h = absurd (cc)
       go (l ∷ ls) known h =
           let first = cond l.negated (not (says l.variable)) (says l.variable) in
-          let rest = clause_holds (on_plain Live d routes n values) (map (numbered d routes n) ls) in
+          let rest = clause_holds (on_plain (Live turns) d routes n values) (map (numbered d routes n) ls) in
           elim (split (l.negated && is_dead (is_live d routes) l.variable) (denies_dead (is_live d routes) ls) h) [
             | inl e ↦ or_left first rest (one l (known l (inl refl)) e)
             | inr e ↦ or_right first rest (go ls (λ x m. known x (inr m)) e)
@@ -141,7 +142,7 @@ module _ (d : Station) (routes : List Route) (n : ℕ) (cl : Clause) (known : Kn
       there Plain m = (map (numbered d routes n) cl, refl)
       there Sorted m = (map (numbered d routes n) cl, refl)
       there Normal m = (map (numbered d routes n) cl, refl)
-      there Live m =
-          let says = alike_on_base (on_plain Live d routes n m.values) (model_of d routes n plan) (variable_count d routes n) m.of_plan (map (numbered d routes n) cl) (known_over d routes n cl known) in
+      there (Live turns) m =
+          let says = alike_on_base (on_plain (Live turns) d routes n m.values) (model_of d routes n plan) (variable_count d routes n) m.of_plan (map (numbered d routes n) cl) (known_over d routes n cl known) in
           let left = map (live_numbered (is_live d routes) d routes n) (without_dead (is_live d routes) cl) in
-          (left, ap (λ b. if b then None else Some left) (false_unless (denies_dead (is_live d routes) cl) (λ h. true≢false (sym (denied_true m.values h) ∙ (says ∙ denied)))))
+          (left, ap (λ b. if b then None else Some left) (false_unless (denies_dead (is_live d routes) cl) (λ h. true≢false (sym (denied_true turns m.values h) ∙ (says ∙ denied)))))

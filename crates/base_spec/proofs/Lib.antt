@@ -4,3 +4,4 @@ pub mod Retold
 pub mod Models
 pub mod Ranges
 pub mod Left
+pub mod Staying

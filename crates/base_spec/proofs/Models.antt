@@ -9,10 +9,11 @@ use Rattle.rail_base.proofs.Lists.{list_all_from}
 use Rattle.rail_spec.specs.Track.{routes_of}
 use Rattle.rail_spec.specs.Plans.{commands, step_of}
 use Rattle.rail_spec.specs.Feasible.{IsFeasible, IsRunnable}
-use Rattle.rail_alike.specs.Tests.{neighbors}
 use Rattle.sat_clause.specs.Clauses.{clause_holds}
 use Rattle.clause_spec.specs.declared.question.BaseKind.{BaseKind}
 use Rattle.clause_spec.specs.declared.question.BaseKind.TheVariants.{Plain, Sorted, Normal, Live}
+use Rattle.clause_spec.specs.declared.question.Turns.{Turns}
+use Rattle.clause_spec.specs.declared.question.Turns.TheVariants.{All}
 use Rattle.clause_spec.specs.Variables.{By, number_of}
 use Rattle.clause_spec.specs.Clauses.{base_clauses}
 use Rattle.clause_spec.specs.Models.{is_so, decoded, model_of}
@@ -23,7 +24,7 @@ use Rattle.clause_spec.proofs.Steps.{step_high}
 use Rattle.clause_spec.proofs.Theorems.{feasible_plans_are_models, models_are_plans}
 use Rattle.clause_spec.proofs.Variables.{number_high}
 use Rattle.alike_clause_spec.specs.Sorted.{sorted_base}
-use Rattle.alike_clause_spec.specs.Turns.{turn_clauses}
+use Rattle.alike_clause_spec.specs.Turns.{turn_clauses, turn_pairs}
 use Rattle.alike_clause_spec.proofs.Holding.{has_model}
 use Rattle.normal_clause_spec.specs.Models.{normal_model_of}
 use Rattle.normal_clause_spec.proofs.Shown.{has_normal_model}
@@ -54,7 +55,7 @@ module _ (d : Station) (n k : ℕ) (some : 1 ≤ k) (within : k ≤ n) where
 
   sorted_model : (plan : List (List Command)) → IsFeasible d k plan → HasModelBy Sorted d n k
   sorted_model plan f =
-      let m = has_model d n k some within plan f in
+      let m = has_model All d n k some within plan f in
       record {
         plan = m.plan;
         feasible = m.feasible;
@@ -72,9 +73,9 @@ module _ (d : Station) (n k : ℕ) (some : 1 ≤ k) (within : k ≤ n) where
         by = m.by;
       }
 
-  live_model : (plan : List (List Command)) → IsFeasible d k plan → HasModelBy Live d n k
-  live_model plan f =
-      let m = have_live_models d n k some within plan f in
+  live_model : (turns : Turns) (plan : List (List Command)) → IsFeasible d k plan → HasModelBy (Live turns) d n k
+  live_model turns plan f =
+      let m = have_live_models turns d n k some within plan f in
       let live = is_live d (routes_of d) in
       record {
         plan = m.plan;
@@ -87,7 +88,7 @@ module _ (d : Station) (n k : ℕ) (some : 1 ≤ k) (within : k ≤ n) where
   has_model_by Plain admitted plan f = plain_model plan f
   has_model_by Sorted admitted plan f = sorted_model plan f
   has_model_by Normal admitted plan f = normal_model admitted plan f
-  has_model_by Live admitted plan f = live_model plan f
+  has_model_by (Live turns) admitted plan f = live_model turns plan f
 
 -- the value that says that all is given by step k
 pub by_on_plain : (kind : BaseKind) (d : Station) (routes : List Route) (n k : ℕ) → 1 ≤ k → k ≤ n → (values : ℕ → Bool)
@@ -95,7 +96,7 @@ pub by_on_plain : (kind : BaseKind) (d : Station) (routes : List Route) (n k : �
 by_on_plain Plain d routes n k low high values = refl
 by_on_plain Sorted d routes n k low high values = refl
 by_on_plain Normal d routes n k low high values = refl
-by_on_plain Live d routes n k low high values = spread_says (is_live d routes) d routes n values (By k) (low, high) ∙ live_same (is_live d routes) d routes n values (By k) refl
+by_on_plain (Live turns) d routes n k low high values = spread_says (is_live d routes) d routes n values (By k) (low, high) ∙ live_same (is_live d routes) d routes n values (By k) refl
 
 -- so it is in the model of a plan
 pub by_of_plan : (kind : BaseKind) (d : Station) (n k : ℕ) → 1 ≤ k → k ≤ n → (m : HasModelBy kind d n k) → model_of d (routes_of d) n m.plan (number_of d (routes_of d) n (By k)) ≡ true
@@ -109,13 +110,13 @@ pub gives_runnable : (kind : BaseKind) (d : Station) (routes : List Route) (n : 
 gives_runnable kind d routes n some values h = (models_are_plans d routes n (on_plain kind d routes n values) some (begins_with_plain kind d routes n some values h)).0
 
 -- values that make the sorted base true give a plan whose model does
-sorted_retold : (d : Station) (n : ℕ) → 1 ≤ n → (values : ℕ → Bool) → list_all (clause_holds values) (sorted_base d (routes_of d) n) ≡ true
-    → list_all (clause_holds (model_of d (routes_of d) n (decoded d (routes_of d) n values))) (sorted_base d (routes_of d) n) ≡ true
-sorted_retold d n some values h =
+sorted_retold : (turns : Turns) (d : Station) (n : ℕ) → 1 ≤ n → (values : ℕ → Bool) → list_all (clause_holds values) (sorted_base turns d (routes_of d) n) ≡ true
+    → list_all (clause_holds (model_of d (routes_of d) n (decoded d (routes_of d) n values))) (sorted_base turns d (routes_of d) n) ≡ true
+sorted_retold turns d n some values h =
     let base = base_clauses d (routes_of d) n in
-    let turns = turn_clauses d (routes_of d) n (neighbors d) in
-    let true_ : list_all (clause_holds values) (base_clauses d (routes_of d) n) ≡ true = first_true values base turns h in
-    both_true (model_of d (routes_of d) n (decoded d (routes_of d) n values)) base turns (retold d (routes_of d) n values true_ some) (turns_retold d n values true_ (last_true values base turns h))
+    let more = turn_clauses d (routes_of d) n (turn_pairs turns d) in
+    let true_ : list_all (clause_holds values) (base_clauses d (routes_of d) n) ≡ true = first_true values base more h in
+    both_true (model_of d (routes_of d) n (decoded d (routes_of d) n values)) base more (retold d (routes_of d) n values true_ some) (turns_retold turns d n values true_ (last_true values base more h))
 
 pub gives_plan : (kind : BaseKind) (d : Station) (n : ℕ) → 1 ≤ n → ModelsGivePlans kind d n
 gives_plan Plain d n some values h = record {
@@ -126,20 +127,20 @@ gives_plan Plain d n some values h = record {
 gives_plan Sorted d n some values h = record {
   values = model_of d (routes_of d) n (decoded d (routes_of d) n values);
   of_plan = λ v l. refl;
-  holds = sorted_retold d n some values h;
+  holds = sorted_retold All d n some values h;
 }
 gives_plan Normal d n some values h = record {
   values = joined d (routes_of d) n values;
   of_plan = joined_low d (routes_of d) n values;
   holds = normal_retold d (routes_of d) n values some h;
 }
-gives_plan Live d n some values h =
+gives_plan (Live turns) d n some values h =
     let live = is_live d (routes_of d) in
     let whole = spread live d (routes_of d) n values in
     let plan = decoded d (routes_of d) n whole in
-    let told = give_plans live d (routes_of d) n some values h in
+    let told = give_plans turns live d (routes_of d) n some values h in
     record {
       values = live_model_of live d (routes_of d) n plan;
       of_plan = λ v l. model_spread live d (routes_of d) n plan told.1 v;
-      holds = base_of_plan live d (routes_of d) n some plan told.1 ∙ sorted_retold d n some whole told.0;
+      holds = base_of_plan turns live d (routes_of d) n some plan told.1 ∙ sorted_retold turns d n some whole told.0;
     }

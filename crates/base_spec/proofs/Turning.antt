@@ -1,15 +1,14 @@
 -- Values that make the clauses of trains in turn true give a plan whose model does.
 use Rattle.std.proofs.Common.{◌≡◌, ℕ, inl, inr, Bool, true, List, map, flat_map, sym, ap, subst, ◌∙◌}
 use Rattle.std.specs.List.{list_all}
-use Rattle.alike_clause_spec.specs.Turns.{beginnings, has_begun, in_turn, turn_clauses}
-use Rattle.alike_clause_spec.proofs.Holding.{OfPair, of_pair, all_known}
+use Rattle.alike_clause_spec.specs.Turns.{beginnings, has_begun, in_turn, turn_clauses, turn_pairs}
+use Rattle.alike_clause_spec.proofs.Holding.{OfPair, of_pair, all_known, turns_named}
+use Rattle.clause_spec.specs.declared.question.Turns.{Turns}
 use Rattle.clause_spec.specs.Clauses.{Clause, base_clauses}
 use Rattle.clause_spec.specs.Models.{decoded, model_of}
 use Rattle.clause_spec.specs.Variables.{Variable, Given, Before, By, Literal, yes, number_of, numbered}
 use Rattle.clause_spec.proofs.Decode.{decoded_given}
 use Rattle.clause_spec.proofs.Numbers.{Known, clause_says, holds_alike}
-use Rattle.rail_alike.specs.Tests.{neighbors}
-use Rattle.rail_alike.proofs.Next.{neighbors_named}
 use Rattle.rail_base.specs.declared.route.RouteNo.{RouteNo}
 use Rattle.rail_base.specs.declared.station.Station.{Station}
 use Rattle.rail_base.specs.declared.station.TrainNo.{TrainNo}
@@ -36,7 +35,7 @@ all_given d n p cl o l m = go (subst (In l) (sym o.is) m)
     go (inl e) = subst (λ (x : Literal). IsGiven x.variable) e tt
     go (inr k) = at (in_map_back (λ r. yes (Given (record { train = p.0; route = r }) o.step)) (beginnings d (routes_of d) n p.0) l k)
 
-module _ (d : Station) (n : ℕ) (values : ℕ → Bool) (true_ : list_all (clause_holds values) (base_clauses d (routes_of d) n) ≡ true) where
+module _ (turns : Turns) (d : Station) (n : ℕ) (values : ℕ → Bool) (true_ : list_all (clause_holds values) (base_clauses d (routes_of d) n) ≡ true) where
   abbrev model : ℕ → Bool
   model = model_of d (routes_of d) n (decoded d (routes_of d) n values)
 
@@ -45,21 +44,21 @@ module _ (d : Station) (n : ℕ) (values : ℕ → Bool) (true_ : list_all (clau
   given_alike (Before e c) k g = absurd g
   given_alike (By j) k g = absurd g
 
-  clause_alike : (p : TrainNo × TrainNo) → In p (neighbors d) → (cl : Clause) → In cl (in_turn d (routes_of d) n p) → clause_holds model (map (numbered d (routes_of d) n) cl) ≡ clause_holds values (map (numbered d (routes_of d) n) cl)
+  clause_alike : (p : TrainNo × TrainNo) → In p (turn_pairs turns d) → (cl : Clause) → In cl (in_turn d (routes_of d) n p) → clause_holds model (map (numbered d (routes_of d) n) cl) ≡ clause_holds values (map (numbered d (routes_of d) n) cl)
   clause_alike p k cl m =
       let o = of_pair d (routes_of d) n p cl m in
-      let named = neighbors_named d p k in
+      let named = turns_named turns d p k in
       clause_says d (routes_of d) n model cl
       ∙ (holds_alike (λ v. model (number_of d (routes_of d) n v)) (λ v. values (number_of d (routes_of d) n v)) cl
       (λ l i. given_alike l.variable (all_known d (routes_of d) n p named.0 named.1 cl o l i) (all_given d n p cl o l i))
       ∙ sym (clause_says d (routes_of d) n values cl))
 
-  one : list_all (clause_holds values) (turn_clauses d (routes_of d) n (neighbors d)) ≡ true → (c : List Lit) → In c (turn_clauses d (routes_of d) n (neighbors d)) → clause_holds model c ≡ true
+  one : list_all (clause_holds values) (turn_clauses d (routes_of d) n (turn_pairs turns d)) ≡ true → (c : List Lit) → In c (turn_clauses d (routes_of d) n (turn_pairs turns d)) → clause_holds model c ≡ true
   one h c m =
-      let f = in_map_back (map (numbered d (routes_of d) n)) (flat_map (in_turn d (routes_of d) n) (neighbors d)) c m in
-      let p = in_flat_map_back (in_turn d (routes_of d) n) (neighbors d) f.0 f.1 in
+      let f = in_map_back (map (numbered d (routes_of d) n)) (flat_map (in_turn d (routes_of d) n) (turn_pairs turns d)) c m in
+      let p = in_flat_map_back (in_turn d (routes_of d) n) (turn_pairs turns d) f.0 f.1 in
       let alike = clause_alike p.0 p.1 f.0 p.2 in
-      ap (clause_holds model) (sym f.2) ∙ (alike ∙ (ap (clause_holds values) f.2 ∙ list_all_at (clause_holds values) (turn_clauses d (routes_of d) n (neighbors d)) c h m))
+      ap (clause_holds model) (sym f.2) ∙ (alike ∙ (ap (clause_holds values) f.2 ∙ list_all_at (clause_holds values) (turn_clauses d (routes_of d) n (turn_pairs turns d)) c h m))
 
-  pub turns_retold : list_all (clause_holds values) (turn_clauses d (routes_of d) n (neighbors d)) ≡ true → list_all (clause_holds model) (turn_clauses d (routes_of d) n (neighbors d)) ≡ true
-  turns_retold h = list_all_from (clause_holds model) (turn_clauses d (routes_of d) n (neighbors d)) (one h)
+  pub turns_retold : list_all (clause_holds values) (turn_clauses d (routes_of d) n (turn_pairs turns d)) ≡ true → list_all (clause_holds model) (turn_clauses d (routes_of d) n (turn_pairs turns d)) ≡ true
+  turns_retold h = list_all_from (clause_holds model) (turn_clauses d (routes_of d) n (turn_pairs turns d)) (one h)

@@ -8,6 +8,7 @@ use Rattle.sat_clause.specs.declared.lit.Lit.{Lit}
 use Rattle.sat_clause.specs.Clauses.{clause_holds}
 use Rattle.clause_spec.specs.declared.question.BaseKind.{BaseKind}
 use Rattle.clause_spec.specs.declared.question.BaseKind.TheVariants.{Plain, Sorted, Normal, Live}
+use Rattle.clause_spec.specs.declared.question.Turns.TheVariants.{All}
 use Rattle.clause_spec.specs.declared.question.VariableCounts.{VariableCounts}
 use Rattle.clause_spec.specs.Variables.{numbered, pairs, variable_count}
 use Rattle.clause_spec.specs.Clauses.{Clause, base_clauses}
@@ -22,9 +23,9 @@ use Rattle.live_clause_spec.specs.Variables.{live_commands, live_pairs}
 -- the clauses of a base
 abbrev pub clauses_of : BaseKind → Station → List Route → ℕ → List (List Lit)
 clauses_of Plain d routes n = base_clauses d routes n
-clauses_of Sorted d routes n = sorted_base d routes n
+clauses_of Sorted d routes n = sorted_base All d routes n
 clauses_of Normal d routes n = normal_base d routes n
-clauses_of Live d routes n = live_base d routes n
+clauses_of (Live turns) d routes n = live_base turns d routes n
 
 -- what is left of a clause over a base's numbers: all of it, but in the base of live commands what isn't dead; none
 -- where it denies what is dead
@@ -32,11 +33,11 @@ abbrev pub left_in : BaseKind → Station → List Route → ℕ → Clause → 
 left_in Plain d routes n cl = Some (map (numbered d routes n) cl)
 left_in Sorted d routes n cl = Some (map (numbered d routes n) cl)
 left_in Normal d routes n cl = Some (map (numbered d routes n) cl)
-left_in Live d routes n cl = left_of (is_live d routes) d routes n cl
+left_in (Live turns) d routes n cl = left_of (is_live d routes) d routes n cl
 
 -- how many variables come before those that all is given by a step
 abbrev pub before_selectors : BaseKind → Station → List Route → ℕ → ℕ
-before_selectors Live d routes n =
+before_selectors (Live turns) d routes n =
     length (live_commands (is_live d routes) d routes) * n + length (live_pairs (is_live d routes) d routes)
 before_selectors _ d routes n = length d.trains * length routes * n + length (pairs d routes)
 
@@ -55,7 +56,7 @@ variables_of kind d routes n = record {
 
 -- values of its variables, for those of the plain base: the variables of commands that aren't live are false
 abbrev pub on_plain : BaseKind → Station → List Route → ℕ → (ℕ → Bool) → ℕ → Bool
-on_plain Live d routes n values = spread (is_live d routes) d routes n values
+on_plain (Live turns) d routes n values = spread (is_live d routes) d routes n values
 on_plain _ d routes n values = values
 
 -- the plan that they give

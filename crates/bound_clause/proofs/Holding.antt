@@ -11,6 +11,7 @@ use Rattle.rail_spec.specs.Track.{routes_of}
 use Rattle.rail_spec.specs.Feasible.{IsFeasible, IsInfeasible}
 use Rattle.sat_clause.specs.declared.lit.Lit.{Lit}
 use Rattle.sat_clause.specs.Clauses.{clause_holds}
+use Rattle.clause_spec.specs.declared.question.Turns.{Turns}
 use Rattle.clause_spec.specs.Models.{model_of}
 use Rattle.cone_spec.proofs.Sorted.{all_pairs_map}
 use Rattle.cone_spec.specs.declared.Cone.{Cone}
@@ -61,6 +62,6 @@ sound d adm n cones bounds some valid valid_too plan f = all_append (clause_hold
     each_bound [] h = refl
     each_bound (b ∷ bs) h = and_both _ _ (bound_holds d adm n b plan some (and_left (is_valid_bound d (routes_of d) b) _ h) f) (each_bound bs (and_right (is_valid_bound d (routes_of d) b) _ h))
 
-pub refuted : (d : Station) → IsAdmitted d → (n k : ℕ) (cones : List Cone) (bounds : List Bound) → 1 ≤ k → k ≤ n → list_all (is_valid_cone d (routes_of d)) cones ≡ true → list_all (is_valid_bound d (routes_of d)) bounds ≡ true
-    → NoneSortedBy d n k (clauses_of_evidence d n cones bounds) → IsInfeasible d k
-refuted d adm n k cones bounds some more valid valid_too none = none_sorted d n k some more (clauses_of_evidence d n cones bounds) (sound d adm n cones bounds (omega arith) valid valid_too) none
+pub refuted : (turns : Turns) (d : Station) → IsAdmitted d → (n k : ℕ) (cones : List Cone) (bounds : List Bound) → 1 ≤ k → k ≤ n → list_all (is_valid_cone d (routes_of d)) cones ≡ true → list_all (is_valid_bound d (routes_of d)) bounds ≡ true
+    → NoneSortedBy turns d n k (clauses_of_evidence d n cones bounds) → IsInfeasible d k
+refuted turns d adm n k cones bounds some more valid valid_too none = none_sorted turns d n k some more (clauses_of_evidence d n cones bounds) (sound d adm n cones bounds (omega arith) valid valid_too) none

@@ -7,6 +7,7 @@ use Rattle.rail_base.specs.declared.plan.Command.{Command}
 use Rattle.rail_spec.specs.Track.{routes_of}
 use Rattle.rail_spec.specs.Feasible.{IsInfeasible}
 use Rattle.sat_clause.specs.Clauses.{clause_holds}
+use Rattle.clause_spec.specs.declared.question.Turns.{Turns}
 use Rattle.clause_spec.specs.Laws.{StandsInOrder}
 use Rattle.clause_spec.specs.Models.{model_of}
 use Rattle.alike_clause_spec.specs.Sorted.{NoneSortedBy}
@@ -26,7 +27,7 @@ abbrev pub BoundsStandInOrder : Station → List Route → ℕ → Type 0
 BoundsStandInOrder d routes n = (b : Bound) → in_design d routes b ≡ true → StandsInOrder (numbered_bound d routes n b)
 
 -- where valid cones and bounds leave no sorted model by step k, no plan of k steps is feasible
-abbrev pub RefutedIsInfeasible : Station → ℕ → ℕ → Type 0
-RefutedIsInfeasible d n k = (cones : List Cone) (bounds : List Bound)
+abbrev pub RefutedIsInfeasible : Turns → Station → ℕ → ℕ → Type 0
+RefutedIsInfeasible turns d n k = (cones : List Cone) (bounds : List Bound)
     → list_all (is_valid_cone d (routes_of d)) cones ≡ true → list_all (is_valid_bound d (routes_of d)) bounds ≡ true
-    → NoneSortedBy d n k (clauses_of_evidence d n cones bounds) → IsInfeasible d k
+    → NoneSortedBy turns d n k (clauses_of_evidence d n cones bounds) → IsInfeasible d k

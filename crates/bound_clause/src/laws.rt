@@ -3,6 +3,7 @@
 ghost use Rattle.std.specs.Prelude.{◌≤◌};
 ghost use Rattle.rail_base.specs.Admitted.{IsAdmitted};
 ghost use Rattle.bound_clause.specs.Laws.{BoundsHoldInModel, BoundsStandInOrder, RefutedIsInfeasible};
+ghost use Rattle.clause_spec.specs.declared.question.Turns.{Turns};
 ghost use Rattle.clause_spec.specs.Laws.{EachBase};
 ghost use Rattle.rail_laws.specs.Plans.{EachFeasible, EachStep};
 
@@ -19,5 +20,5 @@ pub fn clauses_stand_in_order()
 /// Where no values that make the sorted base of n steps and the clauses of valid cones and certificates true say that
 /// all is given by step k, no plan of k steps is feasible, sorted or not.
 pub fn refuted_designs_are_infeasible()
-    ensures { EachStep (λ d n k. IsAdmitted d → RefutedIsInfeasible d n k) }
+    ensures { (turns : Turns) → EachStep (λ d n k. IsAdmitted d → RefutedIsInfeasible turns d n k) }
 {}

@@ -4,4 +4,4 @@
 pub mod laws;
 mod question;
 
-pub use question::{BaseKind, Question, VariableCounts};
+pub use question::{BaseKind, Question, Turns, VariableCounts};

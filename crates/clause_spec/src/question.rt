@@ -1,5 +1,14 @@
 //! What is asked of a design, and by which clauses.
 
+/// Which trains that are alike come in turn, where live commands alone are searched.
+#[derive(Clone, Copy, PartialEq, Eq, Debug)]
+pub enum Turns {
+    /// All of them.
+    All,
+    /// Those that the within of this number, from 1 on, doesn't name.
+    Beside { within: u64 },
+}
+
 /// Which clauses are put to the solver.
 #[derive(Clone, Copy, PartialEq, Eq, Debug)]
 pub enum BaseKind {
@@ -9,8 +18,9 @@ pub enum BaseKind {
     Sorted,
     /// Those, and that no command could be given a step earlier.
     Normal,
-    /// The sorted ones, with the variables of commands that aren't live taken for false.
-    Live,
+    /// Those, and that these trains that are alike come in turn, with the variables of commands that aren't live taken
+    /// for false.
+    Live(Turns),
 }
 
 /// Whether designs of a version have a plan of at most so many steps, asked by the clauses of a base.

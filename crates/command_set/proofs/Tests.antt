@@ -1,5 +1,5 @@
 -- Sets of commands and tests of them are one.
-use Rattle.std.proofs.Common.{◌≡◌, ℕ, ◌≤◌, ◌<◌, ◌⊎◌, inl, inr, Bool, true, ◌&&◌, if◌then◌else◌, Option, Some, None, List, [], map, filter, flat_map, length, sym, ap, ap₂, subst, ◌∙◌, arith, refl, ◌+◌, ◌*◌, not, ◌||◌, ◌∷◌}
+use Rattle.std.proofs.Common.{◌≡◌, ℕ, ◌≤◌, ◌<◌, ◌⊎◌, inl, inr, Bool, true, ◌&&◌, if◌then◌else◌, Some, None, List, [], map, filter, flat_map, length, sym, ap, ap₂, subst, ◌∙◌, arith, refl, ◌+◌, ◌*◌, not, ◌||◌, ◌∷◌}
 use Rattle.std.specs.List.{list_any}
 use Rattle.sat_clause.specs.declared.lit.Lit.{Lit}
 use Rattle.rail_base.specs.declared.station.Station.{Station}
@@ -14,6 +14,7 @@ use Rattle.rail_base.specs.Stations.{trains}
 use Rattle.rail_base.proofs.Lists.{in_count, in_count_back, in_flat_map, in_map, in_filter_back, in_flat_map_back, in_map_back}
 use Rattle.rail_base.proofs.Members.{and_both, below_or_not, false_unless, in_filter, list_any_from, list_any_gives, same_bool}
 use Rattle.rail_spec.specs.Plans.{all_commands, commands_of, contend, is_command, route_numbers, routes_given}
+use Rattle.clause_spec.specs.declared.question.Turns.{Turns}
 use Rattle.clause_spec.specs.Clauses.{Clause}
 use Rattle.clause_spec.specs.Variables.{Variable, Given, Before, By, is_pair, pairs, pairs_before}
 use Rattle.clause_spec.proofs.Families.{KnownAll}
@@ -105,14 +106,14 @@ module _ (live : Command → Bool) (d : Station) (routes : List Route) (n : ℕ)
         ap₂ (λ b c. if b then None else Some (map (live_numbered other d routes n) c)) denies_alike without_alike
         ∙ ap (λ c. if denies_dead live cl then None else Some c) (written_alike (without_dead live cl))
 
-  pub bases_alike : 1 ≤ n → BasesAreAlike live d routes n
-  bases_alike some =
+  pub bases_alike : (turns : Turns) → 1 ≤ n → BasesAreAlike turns live d routes n
+  bases_alike turns some =
       ap (λ cls. map (map (live_numbered other d routes n)) (map (without_dead other) cls))
-      (filter_alike (λ cl. not (denies_dead other cl)) (λ cl. not (denies_dead live cl)) (sorted_clauses d routes n) (λ cl m. ap not (denies_alike cl (sorted_known d routes n some cl m))))
+      (filter_alike (λ cl. not (denies_dead other cl)) (λ cl. not (denies_dead live cl)) (sorted_clauses turns d routes n) (λ cl m. ap not (denies_alike cl (sorted_known turns d routes n some cl m))))
       ∙ (ap (map (map (live_numbered other d routes n)))
-      (map_alike (without_dead other) (without_dead live) (filter (λ cl. not (denies_dead live cl)) (sorted_clauses d routes n))
-      (λ cl m. without_alike cl (sorted_known d routes n some cl (in_filter_back (λ x. not (denies_dead live x)) (sorted_clauses d routes n) cl m).0)))
-      ∙ map_alike (map (live_numbered other d routes n)) (map (live_numbered live d routes n)) (map (without_dead live) (filter (λ cl. not (denies_dead live cl)) (sorted_clauses d routes n))) (λ cl m. written_alike cl))
+      (map_alike (without_dead other) (without_dead live) (filter (λ cl. not (denies_dead live cl)) (sorted_clauses turns d routes n))
+      (λ cl m. without_alike cl (sorted_known turns d routes n some cl (in_filter_back (λ x. not (denies_dead live x)) (sorted_clauses turns d routes n) cl m).0)))
+      ∙ map_alike (map (live_numbered other d routes n)) (map (live_numbered live d routes n)) (map (without_dead live) (filter (λ cl. not (denies_dead live cl)) (sorted_clauses turns d routes n))) (λ cl m. written_alike cl))
 
 -- ---- all commands
 

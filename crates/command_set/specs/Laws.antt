@@ -7,6 +7,7 @@ use Rattle.rail_base.specs.Members.{In}
 use Rattle.rail_base.specs.Routes.{IsRoute}
 use Rattle.rail_base.specs.Stations.{IsTrain}
 use Rattle.rail_spec.specs.Plans.{all_commands}
+use Rattle.clause_spec.specs.declared.question.Turns.{Turns}
 use Rattle.clause_spec.specs.Variables.{pairs}
 use Rattle.live_clause_spec.specs.Clauses.{base_left}
 use Rattle.live_clause_spec.specs.Variables.{live_commands, live_pairs}
@@ -31,9 +32,9 @@ PairsAreAlike live d routes =
     live_pairs (is_among (live_commands live d routes)) d routes ≡ live_pairs live d routes
 
 -- what is left of the base is the same by both
-abbrev pub BasesAreAlike : (Command → Bool) → Station → List Route → ℕ → Type 0
-BasesAreAlike live d routes n =
-    base_left (is_among (live_commands live d routes)) d routes n ≡ base_left live d routes n
+abbrev pub BasesAreAlike : Turns → (Command → Bool) → Station → List Route → ℕ → Type 0
+BasesAreAlike turns live d routes n =
+    base_left turns (is_among (live_commands live d routes)) d routes n ≡ base_left turns live d routes n
 
 -- all commands are a set
 abbrev pub AllAreASet : Station → List Route → Type 0

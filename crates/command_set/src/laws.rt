@@ -3,6 +3,7 @@
 ghost use Rattle.rail_base.specs.declared.station.Station.{Station};
 ghost use Rattle.rail_base.specs.declared.route.Route.{Route};
 ghost use Rattle.std.specs.Prelude.{List};
+ghost use Rattle.clause_spec.specs.declared.question.Turns.{Turns};
 ghost use Rattle.live_clause_spec.specs.Laws.{OfAnyLive};
 ghost use Rattle.command_set.specs.Laws.{AllAreASet, AllNamed, AllPairs, AreSets, BasesAreAlike};
 ghost use Rattle.command_set.specs.Laws.{OfEachTest, PairsAreAlike, TellsAlike};
@@ -13,7 +14,7 @@ pub fn sets_are_tests()
     ensures sets { OfEachTest AreSets }
     ensures tells { OfEachTest TellsAlike }
     ensures pairs { OfEachTest PairsAreAlike }
-    ensures bases { OfAnyLive BasesAreAlike }
+    ensures bases { (turns : Turns) → OfAnyLive (BasesAreAlike turns) }
 {}
 
 /// All commands of a design are a set, whose pairs are all that contend. Each of a train and a route is one of them.

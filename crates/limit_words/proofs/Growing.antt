@@ -23,7 +23,9 @@ use Rattle.live_clause_spec.specs.Listed.{live_all_given, live_beginnings, live_
 use Rattle.live_clause_spec.specs.Variables.{live_commands, live_numbered, live_pairs}
 use Rattle.live_clause_spec.proofs.Listing.{left_is_listed}
 use Rattle.live_clause_spec.proofs.Sorted.{sorted_are}
-use Rattle.rail_alike.specs.Tests.{neighbors}
+use Rattle.alike_clause_spec.specs.Turns.{turn_pairs}
+use Rattle.clause_spec.specs.declared.question.Turns.{Turns}
+use Rattle.clause_spec.specs.declared.question.Turns.TheVariants.{All}
 use Rattle.sat_clause.specs.declared.lit.Lit.{Lit}
 use Rattle.plan_encoding.specs.Bases.{plain_clauses}
 use Rattle.plan_encoding.proofs.Over.{any, none_dead, plain_left}
@@ -211,10 +213,10 @@ module _ (live : Command → Bool) (d : Station) (routes : List Route) where
   turn_even : (p : TrainNo × TrainNo) → Even (λ n. literals (live_in_turn live d routes n p))
   turn_even p = even_each (λ n q. map (live_has_begun live d routes n p q) (one_to n)) (live_beginnings live d routes 1 p.1) (begun_even p)
 
-  listed_even : Even (λ n. literals (live_clauses live d routes n))
-  listed_even =
-      even_append (λ n. plain_clauses live d routes n) (λ n. flat_map (live_in_turn live d routes n) (neighbors d)) plain_even
-      (even_each (live_in_turn live d routes) (neighbors d) turn_even)
+  listed_even : (turns : Turns) → Even (λ n. literals (live_clauses turns live d routes n))
+  listed_even turns =
+      even_append (λ n. plain_clauses live d routes n) (λ n. flat_map (live_in_turn live d routes n) (turn_pairs turns d)) plain_even
+      (even_each (live_in_turn live d routes) (turn_pairs turns d) turn_even)
 
 -- ---- the bases
 
@@ -226,19 +228,19 @@ module _ (d : Station) (routes : List Route) where
       (λ n. literals_told (numbered d routes n) (clauses d routes n) ∙ ap (λ (cls : List Clause). literals cls) (sym (none_dead (clauses d routes n)) ∙ plain_left any d routes n))
       (plain_even any d routes)
 
-  sorted_even : Even (λ n. literals (sorted_base d routes n))
+  sorted_even : Even (λ n. literals (sorted_base All d routes n))
   sorted_even =
-      even_like (λ n. literals (live_clauses any d routes n)) (λ n. literals (sorted_base d routes n))
-      (λ n. ap (λ (cs : List (List Lit)). literals cs) (sorted_are d routes n)
-      ∙ (literals_told (numbered d routes n) (sorted_clauses d routes n) ∙ ap (λ (cls : List Clause). literals cls) (sym (none_dead (sorted_clauses d routes n)) ∙ left_is_listed any d routes n)))
-      (listed_even any d routes)
+      even_like (λ n. literals (live_clauses All any d routes n)) (λ n. literals (sorted_base All d routes n))
+      (λ n. ap (λ (cs : List (List Lit)). literals cs) (sorted_are All d routes n)
+      ∙ (literals_told (numbered d routes n) (sorted_clauses All d routes n) ∙ ap (λ (cls : List Clause). literals cls) (sym (none_dead (sorted_clauses All d routes n)) ∙ left_is_listed any d routes n All)))
+      (listed_even any d routes All)
 
-  live_even : Even (λ n. literals (live_base d routes n))
-  live_even =
+  live_even : (turns : Turns) → Even (λ n. literals (live_base turns d routes n))
+  live_even turns =
       let live : Command → Bool = is_live d routes in
-      even_like (λ n. literals (live_clauses live d routes n)) (λ n. literals (live_base d routes n))
-      (λ n. literals_told (live_numbered live d routes n) (clauses_left live d routes n) ∙ ap (λ (cls : List Clause). literals cls) (left_is_listed live d routes n))
-      (listed_even live d routes)
+      even_like (λ n. literals (live_clauses turns live d routes n)) (λ n. literals (live_base turns d routes n))
+      (λ n. literals_told (live_numbered live d routes n) (clauses_left turns live d routes n) ∙ ap (λ (cls : List Clause). literals cls) (left_is_listed live d routes n turns))
+      (listed_even live d routes turns)
 
   -- ---- and those of normal plans
 
@@ -289,7 +291,7 @@ module _ (d : Station) (routes : List Route) where
   count_even Plain = base_even
   count_even Sorted = sorted_even
   count_even Normal = even_append (base_clauses d routes) (λ n. map (map (normal_numbered d routes n)) (normal_clauses d routes n)) base_even normal_even
-  count_even Live = live_even
+  count_even (Live turns) = live_even turns
 
 pub grow_evenly : (kind : BaseKind) (d : Station) (routes : List Route) → GrowEvenly kind d routes
 grow_evenly kind d routes = evenly (literal_count kind d routes) (count_even d routes kind)

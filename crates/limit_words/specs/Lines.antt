@@ -4,6 +4,7 @@ use Rattle.limit_words.specs.Limits.{IsLimitFor}
 use Rattle.limit_words.specs.declared.greatest.Limit.{Limit}
 use Rattle.clause_spec.specs.declared.question.BaseKind.{BaseKind}
 use Rattle.clause_spec.specs.declared.question.BaseKind.TheVariants.{Plain, Sorted, Normal, Live}
+use Rattle.clause_spec.specs.declared.question.Turns.TheVariants.{All}
 use Rattle.rail_base.specs.declared.route.Route.{Route}
 use Rattle.rail_base.specs.declared.station.Station.{Station}
 
@@ -12,7 +13,7 @@ abbrev pub kind_text : BaseKind → List ℕ
 kind_text Plain = codes "without --bounds"
 kind_text Sorted = codes "with --bounds"
 kind_text Normal = codes "with --normal"
-kind_text Live = codes "with --bounds"
+kind_text (Live turns) = codes "with --bounds"
 
 -- how many literals the clauses for n steps have
 abbrev pub known_text : ℕ → ℕ → List ℕ
@@ -39,7 +40,7 @@ limit_line kind n l =
 
 -- `with --bounds 20 steps can be asked for`
 abbrev pub fits_line : ℕ → List ℕ
-fits_line n = kind_text Live ++ codes " " ++ decimal n ++ codes " steps can be asked for\n"
+fits_line n = kind_text (Live All) ++ codes " " ++ decimal n ++ codes " steps can be asked for\n"
 
 -- the line on a limit, where there is one; else, of the base of live commands, that so many steps can be asked for
 abbrev pub limits_said : BaseKind → ℕ → Option Limit → List (List ℕ)
@@ -47,7 +48,7 @@ limits_said kind n (Some l) = limit_line kind n l ∷ []
 limits_said Plain n None = []
 limits_said Sorted n None = []
 limits_said Normal n None = []
-limits_said Live n None = fits_line n ∷ []
+limits_said (Live turns) n None = fits_line n ∷ []
 
 module _ (d : Station) (routes : List Route) where
   -- the lines for n steps: without bounds, with them, and for normal plans alone
@@ -55,7 +56,7 @@ module _ (d : Station) (routes : List Route) where
     pub plain : Option Limit
     pub is_plain : IsLimitFor Plain d routes n plain
     pub bounds : Option Limit
-    pub is_bounds : IsLimitFor Live d routes n bounds
+    pub is_bounds : IsLimitFor (Live All) d routes n bounds
     pub normal : Option Limit
     pub is_normal : IsLimitFor Normal d routes n normal
-    pub are : lines ≡ limits_said Plain n plain ++ limits_said Live n bounds ++ limits_said Normal n normal
+    pub are : lines ≡ limits_said Plain n plain ++ limits_said (Live All) n bounds ++ limits_said Normal n normal

@@ -8,7 +8,7 @@ ghost use Rattle.limit_words.specs.Lines.{AreLimitLines, excess_text, fits_line,
 ghost use Rattle.limit_words.specs.Lines.{limits_said, unknown_text};
 
 use crate::greatest::{Limit, limit_for};
-use clause_spec::BaseKind;
+use clause_spec::{BaseKind, Turns};
 use interlocking::Interlocking;
 use rail_text::put_number;
 use std::alloc::{AllocError, Global};
@@ -19,7 +19,7 @@ fn put_kind(text: &mut Vec<u8>, kind: BaseKind) -> Result<(), AllocError>
 {
     match kind {
         BaseKind::Plain => text.extend_from_slice(b"without --bounds"),
-        BaseKind::Sorted | BaseKind::Live => text.extend_from_slice(b"with --bounds"),
+        BaseKind::Sorted | BaseKind::Live(_) => text.extend_from_slice(b"with --bounds"),
         BaseKind::Normal => text.extend_from_slice(b"with --normal"),
     }
 }
@@ -77,7 +77,7 @@ fn fits_line(alloc: Global, steps: u32) -> Result<Vec<u8>, AllocError>
     ensures { IfOk result (λ line. line.items ≡ fits_line steps) }
 {
     let mut line = Vec::new(alloc);
-    put_kind(&mut line, BaseKind::Live)?;
+    put_kind(&mut line, BaseKind::Live(Turns::All))?;
     line.extend_from_slice(b" ")?;
     put_number(&mut line, u64::from(steps))?;
     line.extend_from_slice(b" steps can be asked for\n")?;
@@ -100,7 +100,7 @@ fn push_limit(
             lines.push(line)?;
         }
         None => match kind {
-            BaseKind::Live => {
+            BaseKind::Live(_) => {
                 let line = fits_line(alloc, steps)?;
                 lines.push(line)?;
             }
@@ -122,11 +122,11 @@ pub fn limit_lines(
     ensures { IfOk result (λ lines. on interlocking.now AreLimitLines steps (lines_of lines.items)) }
 {
     let plain = limit_for(alloc, interlocking, BaseKind::Plain, steps)?;
-    let bounds = limit_for(alloc, interlocking, BaseKind::Live, steps)?;
+    let bounds = limit_for(alloc, interlocking, BaseKind::Live(Turns::All), steps)?;
     let normal = limit_for(alloc, interlocking, BaseKind::Normal, steps)?;
     let mut lines = Vec::new(alloc);
     push_limit(alloc, BaseKind::Plain, steps, plain, &mut lines)?;
-    push_limit(alloc, BaseKind::Live, steps, bounds, &mut lines)?;
+    push_limit(alloc, BaseKind::Live(Turns::All), steps, bounds, &mut lines)?;
     push_limit(alloc, BaseKind::Normal, steps, normal, &mut lines)?;
     Ok(lines)
 }

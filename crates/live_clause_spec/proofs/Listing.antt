@@ -12,12 +12,12 @@ use Rattle.rail_base.specs.Numbering.{entry, one_to}
 use Rattle.rail_base.specs.Stations.{first_visit, train_of, trains}
 use Rattle.rail_base.proofs.Members.{In, and_left, and_right, filter-append, list_all_at}
 use Rattle.rail_base.proofs.Lists.{in_append_left, in_append_right, in_map}
-use Rattle.rail_alike.specs.Tests.{neighbors}
 use Rattle.rail_spec.specs.Plans.{all_commands, has_node, route_at, route_numbers}
+use Rattle.clause_spec.specs.declared.question.Turns.{Turns}
 use Rattle.clause_spec.specs.Variables.{Given, Before, By, yes, no, if_given, pairs}
 use Rattle.clause_spec.specs.Clauses.{Clause, all_given, chains, clearing, exclude, excluded, first_pairs, in_order, later_pairs, leading_to, makes_visits, may_visit, not_at_once, not_both, onward, start_clause, starts_rightly, stays_given, visited, wait_clause, waits}
 use Rattle.clause_spec.proofs.Steps.{cmd}
-use Rattle.alike_clause_spec.specs.Turns.{beginnings, begun_always, has_begun, in_turn}
+use Rattle.alike_clause_spec.specs.Turns.{beginnings, begun_always, has_begun, in_turn, turn_pairs}
 use Rattle.live_clause_spec.specs.Variables.{both_live, is_dead, live_commands, live_pairs}
 use Rattle.live_clause_spec.specs.Clauses.{clauses_left, denies_dead, with_dead_false}
 use Rattle.live_clause_spec.specs.Listed.{is_live_for, live_all_given, live_beginnings, live_clauses, live_excluded, live_first_pairs, live_has_begun, live_in_turn, live_leading_to, live_makes_visits, live_onward, live_start_clause, live_starts_rightly, live_visited, live_wait_clause, live_waits}
@@ -273,16 +273,16 @@ module _ (live : Command → Bool) (d : Station) (routes : List Route) (n : ℕ)
           with_no live (Given (cmd p.1 q) i) (map (λ r. yes (Given (cmd p.0 r) i)) (beginnings d routes n p.0)) (map (λ r. yes (Given (cmd p.0 r) i)) (live_beginnings live d routes n p.0)) (alive_given live (cmd p.1 q) i h)
           (each_given live p.0 (beginnings d routes n p.0) i)
 
-  pub turns_left : with_dead_false live (flat_map (in_turn d routes n) (neighbors d)) ≡ flat_map (live_in_turn live d routes n) (neighbors d)
-  turns_left = all_rows_left live (in_turn d routes n) (live_in_turn live d routes n) (neighbors d) (λ p m. turn_left p)
+  pub turns_left : (turns : Turns) → with_dead_false live (flat_map (in_turn d routes n) (turn_pairs turns d)) ≡ flat_map (live_in_turn live d routes n) (turn_pairs turns d)
+  turns_left turns = all_rows_left live (in_turn d routes n) (live_in_turn live d routes n) (turn_pairs turns d) (λ p m. turn_left p)
 
   -- ---- all of them
 
   joined : (xs ys us vs : List Clause) → with_dead_false live xs ≡ us → with_dead_false live ys ≡ vs → with_dead_false live (xs ++ ys) ≡ us ++ vs
   joined xs ys us vs a b = both_left live xs ys ∙ ap₂ (λ ps qs. ps ++ qs) a b
 
-  pub left_is_listed : clauses_left live d routes n ≡ live_clauses live d routes n
-  left_is_listed =
+  pub left_is_listed : (turns : Turns) → clauses_left turns live d routes n ≡ live_clauses turns live d routes n
+  left_is_listed turns =
       let f1 = flat_map (stays_given d routes n) (all_commands d routes) in
       let f2 = flat_map (starts_rightly d routes n) (all_commands d routes) in
       let f3 = flat_map (excluded d routes n) (trains d) in
@@ -291,7 +291,7 @@ module _ (live : Command → Bool) (d : Station) (routes : List Route) (n : ℕ)
       let f6 = flat_map (makes_visits d routes n) (trains d) in
       let f7 = flat_map (in_order d routes n) (pairs d routes) in
       let f8 = flat_map (all_given d routes n) (one_to (n - 1)) in
-      let f9 = flat_map (in_turn d routes n) (neighbors d) in
+      let f9 = flat_map (in_turn d routes n) (turn_pairs turns d) in
       let g1 = flat_map (stays_given d routes n) (live_commands live d routes) in
       let g2 = flat_map (live_starts_rightly live d routes n) (live_commands live d routes) in
       let g3 = flat_map (live_excluded live d routes n) (trains d) in
@@ -300,7 +300,7 @@ module _ (live : Command → Bool) (d : Station) (routes : List Route) (n : ℕ)
       let g6 = flat_map (live_makes_visits live d routes n) (trains d) in
       let g7 = flat_map (in_order d routes n) (live_pairs live d routes) in
       let g8 = flat_map (live_all_given live d routes n) (one_to (n - 1)) in
-      let g9 = flat_map (live_in_turn live d routes n) (neighbors d) in
+      let g9 = flat_map (live_in_turn live d routes n) (turn_pairs turns d) in
       joined (f1 ++ f2 ++ f3 ++ f4 ++ f5 ++ f6 ++ f7 ++ f8) f9 (g1 ++ g2 ++ g3 ++ g4 ++ g5 ++ g6 ++ g7 ++ g8) g9
       (joined (f1 ++ f2 ++ f3 ++ f4 ++ f5 ++ f6 ++ f7) f8 (g1 ++ g2 ++ g3 ++ g4 ++ g5 ++ g6 ++ g7) g8
       (joined (f1 ++ f2 ++ f3 ++ f4 ++ f5 ++ f6) f7 (g1 ++ g2 ++ g3 ++ g4 ++ g5 ++ g6) g7
@@ -308,4 +308,4 @@ module _ (live : Command → Bool) (d : Station) (routes : List Route) (n : ℕ)
       (joined (f1 ++ f2 ++ f3 ++ f4) f5 (g1 ++ g2 ++ g3 ++ g4) g5
       (joined (f1 ++ f2 ++ f3) f4 (g1 ++ g2 ++ g3) g4
       (joined (f1 ++ f2) f3 (g1 ++ g2) g3
-      (joined f1 f2 g1 g2 stays_left starts_left) excludes_left) apart_left) waits_left) visits_left) orders_left) given_left) turns_left
+      (joined f1 f2 g1 g2 stays_left starts_left) excludes_left) apart_left) waits_left) visits_left) orders_left) given_left) (turns_left turns)

@@ -6,6 +6,7 @@ use Rattle.rail_base.specs.declared.station.NodeNo.{NodeNo}
 use Rattle.rail_base.specs.declared.station.Station.{Station}
 use Rattle.rail_spec.specs.Track.{routes_of}
 use Rattle.rail_laws.proofs.Stations.{follow, halt, node, train}
+use Rattle.clause_spec.specs.declared.question.Turns.TheVariants.{All}
 use Rattle.live_clause_spec.specs.Clauses.{live_base}
 use Rattle.live_clause_spec.specs.Listed.{live_routes}
 use Rattle.live_clause_spec.specs.Live.{is_live}
@@ -49,12 +50,12 @@ live_nowhere = refl
 live_in_no_order : live_of (halt_with ((node 1 ∷ []) ∷ (node 3 ∷ []) ∷ (node 2 ∷ []) ∷ [])) 1 ≡ []
 live_in_no_order = refl
 
-nothing_left : live_base (halt_with ((node 2 ∷ []) ∷ (node 3 ∷ []) ∷ [])) (routes_of (halt_with ((node 2 ∷ []) ∷ (node 3 ∷ []) ∷ []))) 1 ≡ [] ∷ [] ∷ []
+nothing_left : live_base All (halt_with ((node 2 ∷ []) ∷ (node 3 ∷ []) ∷ [])) (routes_of (halt_with ((node 2 ∷ []) ∷ (node 3 ∷ []) ∷ []))) 1 ≡ [] ∷ [] ∷ []
 nothing_left = refl
 
 -- ---- clauses
 
-live_base_of_halt : map (map signed) (live_base halt (routes_of halt) 2) ≡
+live_base_of_halt : map (map signed) (live_base All halt (routes_of halt) 2) ≡
     (negsuc 0 ∷ pos 2 ∷ []) ∷
     (negsuc 2 ∷ pos 4 ∷ []) ∷
     (negsuc 2 ∷ []) ∷
@@ -65,7 +66,7 @@ live_base_of_halt : map (map signed) (live_base halt (routes_of halt) 2) ≡
     (negsuc 4 ∷ negsuc 3 ∷ pos 3 ∷ []) ∷ []
 live_base_of_halt = refl
 
-live_base_of_follow : map (map signed) (live_base follow (routes_of follow) 2) ≡
+live_base_of_follow : map (map signed) (live_base All follow (routes_of follow) 2) ≡
     (negsuc 0 ∷ pos 2 ∷ []) ∷
     (negsuc 2 ∷ pos 4 ∷ []) ∷
     (negsuc 4 ∷ pos 6 ∷ []) ∷

@@ -11,6 +11,7 @@ use Rattle.rail_base.specs.Stations.{train_of}
 use Rattle.rail_base.proofs.Members.{in_filter}
 use Rattle.rail_spec.specs.Plans.{route_numbers}
 use Rattle.rail_spec.specs.Track.{routes_of}
+use Rattle.clause_spec.specs.declared.question.Turns.{Turns}
 use Rattle.clause_spec.specs.Variables.{By}
 use Rattle.clause_spec.proofs.Numbers.{model_says}
 use Rattle.alike_clause_spec.proofs.Holding.{has_model}
@@ -92,14 +93,14 @@ are_numbered live d routes n v m =
 pub models_say : (live : Command → Bool) (d : Station) (routes : List Route) (n : ℕ) → ModelsSay live d routes n
 models_say live d routes n plan v m = let k = live_ones live d routes n v m in live_model_says live d routes n plan v k.0 k.1
 
-pub give_plans : (live : Command → Bool) (d : Station) (routes : List Route) (n : ℕ) → 1 ≤ n → LiveModelsGivePlans live d routes n
-give_plans live d routes n some values h =
-    let all = sym (base_spread live d routes n some values) ∙ h in
-    (all, decoded_live live d routes n some values all)
+pub give_plans : (turns : Turns) (live : Command → Bool) (d : Station) (routes : List Route) (n : ℕ) → 1 ≤ n → LiveModelsGivePlans turns live d routes n
+give_plans turns live d routes n some values h =
+    let all = sym (base_spread turns live d routes n some values) ∙ h in
+    (all, decoded_live turns live d routes n some values all)
 
-pub have_live_models : (d : Station) (n k : ℕ) → 1 ≤ k → k ≤ n → FeasibleHaveLiveModels d n k
-have_live_models d n k low high plan f =
-    let m = has_model d n k low high plan f in
+pub have_live_models : (turns : Turns) (d : Station) (n k : ℕ) → 1 ≤ k → k ≤ n → FeasibleHaveLiveModels turns d n k
+have_live_models turns d n k low high plan f =
+    let m = has_model turns d n k low high plan f in
     let some : 1 ≤ n = omega arith in
     let live = is_live d (routes_of d) in
     let alone = feasible_are_live d n m.plan m.feasible in
@@ -107,6 +108,6 @@ have_live_models d n k low high plan f =
       plan = m.plan;
       feasible = m.feasible;
       live_alone = alone;
-      holds = base_of_plan live d (routes_of d) n some m.plan alone ∙ m.holds;
+      holds = base_of_plan turns live d (routes_of d) n some m.plan alone ∙ m.holds;
       by = live_model_says live d (routes_of d) n m.plan (By k) (low, high) refl ∙ (sym (model_says d (routes_of d) n m.plan (By k) (low, high)) ∙ m.by);
     }

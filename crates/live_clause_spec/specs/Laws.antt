@@ -13,6 +13,7 @@ use Rattle.rail_spec.specs.Plans.{commands, route_numbers}
 use Rattle.rail_spec.specs.Track.{routes_of}
 use Rattle.sat_clause.specs.declared.lit.Lit.{Lit}
 use Rattle.sat_clause.specs.Clauses.{clause_holds}
+use Rattle.clause_spec.specs.declared.question.Turns.{Turns}
 use Rattle.clause_spec.specs.Models.{decoded, is_so, model_of}
 use Rattle.clause_spec.specs.Variables.{Variable, By}
 use Rattle.alike_clause_spec.specs.Sorted.{sorted_base}
@@ -56,23 +57,23 @@ AreCounted live d routes n = length (live_variables live d routes n) ≡ live_co
 
 -- each literal of the base that is left has a variable from 1 to their count, and none the one which says that all is
 -- given by step n
-abbrev pub AreLiveInRange : (Command → Bool) → Station → List Route → ℕ → Type 0
-AreLiveInRange live d routes n = (c : List Lit) → In c (base_left live d routes n) → (l : Lit) → In l c
+abbrev pub AreLiveInRange : Turns → (Command → Bool) → Station → List Route → ℕ → Type 0
+AreLiveInRange turns live d routes n = (c : List Lit) → In c (base_left turns live d routes n) → (l : Lit) → In l c
     → (1 ≤ l.var) × (l.var ≤ live_count live d routes n) × (l.var ≢ live_number live d routes n (By n))
 
 -- ---- the list
 
 -- what is left of the clauses are these, family by family
-abbrev pub AreListed : (Command → Bool) → Station → List Route → ℕ → Type 0
-AreListed live d routes n = clauses_left live d routes n ≡ live_clauses live d routes n
+abbrev pub AreListed : Turns → (Command → Bool) → Station → List Route → ℕ → Type 0
+AreListed turns live d routes n = clauses_left turns live d routes n ≡ live_clauses turns live d routes n
 
 -- ---- values
 
 -- values of the live variables make the base that is left true exactly where they make the sorted base true, with dead
 -- variables false
-abbrev pub AreSpread : (Command → Bool) → Station → List Route → ℕ → Type 0
-AreSpread live d routes n = (values : ℕ → Bool) → list_all (clause_holds values) (base_left live d routes n)
-    ≡ list_all (clause_holds (spread live d routes n values)) (sorted_base d routes n)
+abbrev pub AreSpread : Turns → (Command → Bool) → Station → List Route → ℕ → Type 0
+AreSpread turns live d routes n = (values : ℕ → Bool) → list_all (clause_holds values) (base_left turns live d routes n)
+    ≡ list_all (clause_holds (spread live d routes n values)) (sorted_base turns d routes n)
 
 -- the model of a plan that has live commands alone is that of the plan over the live variables, with dead ones false
 abbrev pub ModelsAreSpread : (Command → Bool) → Station → List Route → ℕ → Type 0
@@ -85,31 +86,31 @@ ModelsSay live d routes n = (plan : List (List Command)) (v : Variable) → In v
     → live_model_of live d routes n plan (live_number live d routes n v) ≡ is_so plan v
 
 -- it makes the base that is left true exactly where the model makes the sorted base true
-abbrev pub ModelsAreAlike : (Command → Bool) → Station → List Route → ℕ → Type 0
-ModelsAreAlike live d routes n = (plan : List (List Command)) → HasLiveAlone live plan
-    → list_all (clause_holds (live_model_of live d routes n plan)) (base_left live d routes n)
-    ≡ list_all (clause_holds (model_of d routes n plan)) (sorted_base d routes n)
+abbrev pub ModelsAreAlike : Turns → (Command → Bool) → Station → List Route → ℕ → Type 0
+ModelsAreAlike turns live d routes n = (plan : List (List Command)) → HasLiveAlone live plan
+    → list_all (clause_holds (live_model_of live d routes n plan)) (base_left turns live d routes n)
+    ≡ list_all (clause_holds (model_of d routes n plan)) (sorted_base turns d routes n)
 
 -- a plan that is feasible for n steps, has live commands alone, all given by step k, and makes the live base true
-pub record HasLiveModelBy (d : Station) (n k : ℕ) : Type 0 where
+pub record HasLiveModelBy (turns : Turns) (d : Station) (n k : ℕ) : Type 0 where
   pub plan : List (List Command)
   pub feasible : IsFeasible d n plan
   pub live_alone : HasLiveAlone (is_live d (routes_of d)) plan
   pub holds : list_all (clause_holds (live_model_of (is_live d (routes_of d)) d (routes_of d) n plan))
-      (live_base d (routes_of d) n) ≡ true
+      (live_base turns d (routes_of d) n) ≡ true
   pub by : live_model_of (is_live d (routes_of d)) d (routes_of d) n plan
       (live_number (is_live d (routes_of d)) d (routes_of d) n (By k)) ≡ true
 
 -- where a plan of k steps is feasible, there is such a one
-abbrev pub FeasibleHaveLiveModels : Station → ℕ → ℕ → Type 0
-FeasibleHaveLiveModels d n k = (plan : List (List Command)) → IsFeasible d k plan → HasLiveModelBy d n k
+abbrev pub FeasibleHaveLiveModels : Turns → Station → ℕ → ℕ → Type 0
+FeasibleHaveLiveModels turns d n k = (plan : List (List Command)) → IsFeasible d k plan → HasLiveModelBy turns d n k
 
 -- values that make the base that is left true make the sorted base true, with dead variables false, and give a plan of
 -- live commands alone
-abbrev pub LiveModelsGivePlans : (Command → Bool) → Station → List Route → ℕ → Type 0
-LiveModelsGivePlans live d routes n = (values : ℕ → Bool)
-    → list_all (clause_holds values) (base_left live d routes n) ≡ true
-    → (list_all (clause_holds (spread live d routes n values)) (sorted_base d routes n) ≡ true)
+abbrev pub LiveModelsGivePlans : Turns → (Command → Bool) → Station → List Route → ℕ → Type 0
+LiveModelsGivePlans turns live d routes n = (values : ℕ → Bool)
+    → list_all (clause_holds values) (base_left turns live d routes n) ≡ true
+    → (list_all (clause_holds (spread live d routes n values)) (sorted_base turns d routes n) ≡ true)
     × HasLiveAlone live (decoded d routes n (spread live d routes n values))
 
 -- the plan is the one that the values of the live variables give

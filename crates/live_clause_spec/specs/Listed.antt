@@ -10,12 +10,12 @@ use Rattle.rail_base.specs.declared.route.Start.TheVariants as start
 use Rattle.rail_base.specs.declared.plan.Command.{Command}
 use Rattle.rail_base.specs.Numbering.{entry, one_to}
 use Rattle.rail_base.specs.Stations.{train_of, trains}
-use Rattle.rail_alike.specs.Tests.{neighbors}
 use Rattle.rail_spec.specs.Plans.{exits, route_at, route_numbers}
+use Rattle.clause_spec.specs.declared.question.Turns.{Turns}
 use Rattle.clause_spec.specs.Variables.{Given, By, yes, no, if_given}
 use Rattle.clause_spec.specs.Clauses.{Clause, chain_length, clearing, exclude, in_order, later_pairs, leading_to}
 use Rattle.clause_spec.specs.Clauses.{may_visit, not_at_once, not_both, onward, start_clause, stays_given}
-use Rattle.alike_clause_spec.specs.Turns.{beginnings}
+use Rattle.alike_clause_spec.specs.Turns.{beginnings, turn_pairs}
 use Rattle.live_clause_spec.specs.Variables.{live_commands, live_pairs}
 
 -- the train has a live command for the route
@@ -108,14 +108,15 @@ module _ (live : Command → Bool) (d : Station) (routes : List Route) (n : ℕ)
   abbrev pub live_in_turn : TrainNo × TrainNo → List Clause
   live_in_turn p = flat_map (λ q. map (live_has_begun p q) (one_to n)) (live_beginnings p.1)
 
+module _ (turns : Turns) (live : Command → Bool) (d : Station) (routes : List Route) (n : ℕ) where
   -- all of them, in their order
   abbrev pub live_clauses : List Clause
   live_clauses = flat_map (stays_given d routes n) (live_commands live d routes)
-      ++ flat_map live_starts_rightly (live_commands live d routes)
-      ++ flat_map live_excluded (trains d)
-      ++ flat_map (not_at_once d routes n) live_first_pairs
-      ++ flat_map live_waits (live_pairs live d routes)
-      ++ flat_map live_makes_visits (trains d)
+      ++ flat_map (live_starts_rightly live d routes n) (live_commands live d routes)
+      ++ flat_map (live_excluded live d routes n) (trains d)
+      ++ flat_map (not_at_once d routes n) (live_first_pairs live d routes n)
+      ++ flat_map (live_waits live d routes n) (live_pairs live d routes)
+      ++ flat_map (live_makes_visits live d routes n) (trains d)
       ++ flat_map (in_order d routes n) (live_pairs live d routes)
-      ++ flat_map live_all_given (one_to (n - 1))
-      ++ flat_map live_in_turn (neighbors d)
+      ++ flat_map (live_all_given live d routes n) (one_to (n - 1))
+      ++ flat_map (live_in_turn live d routes n) (turn_pairs turns d)

@@ -29,13 +29,13 @@ use Rattle.log_checker.specs.declared.check_result.Reason.TheVariants.{DropRefus
 
 -- ---- lines
 
--- bounds stand where trains are sorted alone
+-- bounds stand where trains come in turn alone
 abbrev pub may_stand : BaseKind → Evidence → Bool
 may_stand base (evidence.Cone cone) = true
 may_stand Plain (evidence.Bound bound) = false
 may_stand Sorted (evidence.Bound bound) = true
 may_stand Normal (evidence.Bound bound) = false
-may_stand Live (evidence.Bound bound) = true
+may_stand (Live turns) (evidence.Bound bound) = true
 
 -- the line, where no variable of a clause that it derives is past the last one, and it may stand in a file on this base
 abbrev pub if_within : BaseKind → ℕ → Option Line → Option Line

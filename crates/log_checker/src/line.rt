@@ -83,7 +83,7 @@ fn may_stand(base: BaseKind, evidence: &Evidence) -> bool
     match (base, evidence) {
         (_, Evidence::Cone(_)) => true,
         (BaseKind::Plain | BaseKind::Normal, Evidence::Bound(_)) => false,
-        (BaseKind::Sorted | BaseKind::Live, Evidence::Bound(_)) => true,
+        (BaseKind::Sorted | BaseKind::Live(_), Evidence::Bound(_)) => true,
     }
 }
 

@@ -28,6 +28,7 @@ use Rattle.proof_log.specs.declared.head.Head.{Head}
 use Rattle.proof_log.specs.declared.head.Head.TheVariants as heads
 use Rattle.clause_spec.specs.declared.question.BaseKind.{BaseKind}
 use Rattle.clause_spec.specs.declared.question.BaseKind.TheVariants.{Plain, Sorted, Normal, Live}
+use Rattle.clause_spec.specs.declared.question.Turns.TheVariants.{All, Beside}
 use Rattle.proof_log.specs.Heads.{asked_by, head_text, keeps_head}
 use Rattle.proof_log.specs.BoundText.{requirement_words, origin_words, place_words, leg_words, bound_line_words, is_of, keeps_route, keeps_requirement, keeps_origin, keeps_place, keeps_leg, keeps_bound}
 use Rattle.sat_core.specs.Texts.{ended}
@@ -231,19 +232,25 @@ evidence-apart (evidence.Bound b) h = bound-apart b h
 
 -- ---- a head is one line
 
-question-apart : (base : BaseKind) (version steps : ℕ) → (is_plain version && is_plain steps) ≡ true → is_one_line (head_text (asked_by base (version, steps))) ≡ true
-question-apart Plain version steps h =
-    let p = both (is_plain version) (is_plain steps) h in
-    joined (codes "rcvlog") (codes "2" ∷ decimal version ∷ decimal steps ∷ []) refl (rw (plain-apart version p.0, plain-apart steps p.1) refl)
-question-apart Sorted version steps h =
-    let p = both (is_plain version) (is_plain steps) h in
-    joined (codes "rcvlog") (codes "4" ∷ decimal version ∷ decimal steps ∷ []) refl (rw (plain-apart version p.0, plain-apart steps p.1) refl)
-question-apart Normal version steps h =
-    let p = both (is_plain version) (is_plain steps) h in
-    joined (codes "rcvlog") (codes "3" ∷ decimal version ∷ decimal steps ∷ []) refl (rw (plain-apart version p.0, plain-apart steps p.1) refl)
-question-apart Live version steps h =
-    let p = both (is_plain version) (is_plain steps) h in
-    joined (codes "rcvlog") (codes "5" ∷ decimal version ∷ decimal steps ∷ []) refl (rw (plain-apart version p.0, plain-apart steps p.1) refl)
+-- the words of two numbers, and of three
+two_plain-apart : (version steps : ℕ) → (is_plain version && is_plain steps && true) ≡ true → list_all is_one_line (decimal version ∷ decimal steps ∷ []) ≡ true
+two_plain-apart version steps h =
+    let q = both (is_plain version && is_plain steps) true h in
+    let p = both (is_plain version) (is_plain steps) q.0 in
+    rw (plain-apart version p.0, plain-apart steps p.1) refl
+
+three_plain-apart : (version steps within : ℕ) → (is_plain version && is_plain steps && is_plain within) ≡ true → list_all is_one_line (decimal version ∷ decimal steps ∷ decimal within ∷ []) ≡ true
+three_plain-apart version steps within h =
+    let q = both (is_plain version && is_plain steps) (is_plain within) h in
+    let p = both (is_plain version) (is_plain steps) q.0 in
+    rw (plain-apart version p.0, plain-apart steps p.1, plain-apart within q.1) refl
+
+question-apart : (base : BaseKind) (version steps : ℕ) → keeps_head (asked_by base (version, steps)) ≡ true → is_one_line (head_text (asked_by base (version, steps))) ≡ true
+question-apart Plain version steps h = joined (codes "rcvlog") (codes "2" ∷ decimal version ∷ decimal steps ∷ []) refl (two_plain-apart version steps h)
+question-apart Sorted version steps h = joined (codes "rcvlog") (codes "4" ∷ decimal version ∷ decimal steps ∷ []) refl (two_plain-apart version steps h)
+question-apart Normal version steps h = joined (codes "rcvlog") (codes "3" ∷ decimal version ∷ decimal steps ∷ []) refl (two_plain-apart version steps h)
+question-apart (Live All) version steps h = joined (codes "rcvlog") (codes "5" ∷ decimal version ∷ decimal steps ∷ []) refl (two_plain-apart version steps h)
+question-apart (Live (Beside w)) version steps h = joined (codes "rcvlog") (codes "6" ∷ decimal version ∷ decimal steps ∷ decimal w ∷ []) refl (three_plain-apart version steps w h)
 
 pub head-apart : (head : Head) → keeps_head head ≡ true → is_one_line (head_text head) ≡ true
 head-apart heads.Unnamed h = refl

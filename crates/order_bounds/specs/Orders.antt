@@ -61,7 +61,7 @@ module _ (kind : BaseKind) (d : Station) (n : ℕ) where
 
 -- the bounds with which a search begins: over live commands, what each order says
 abbrev pub orders_first : BaseKind → Station → ℕ → List Evidence
-orders_first Live d n = flat_map (said_by Live d n) (one_to (length d.orders))
+orders_first (Live turns) d n = flat_map (said_by (Live turns) d n) (one_to (length d.orders))
 orders_first Plain d n = []
 orders_first Sorted d n = []
 orders_first Normal d n = []

@@ -53,4 +53,4 @@ pub decoded_as : (kind : BaseKind) (d : Station) (routes : List Route) (n : ℕ)
 decoded_as Plain d routes n values = all_decoded d routes n values
 decoded_as Sorted d routes n values = all_decoded d routes n values
 decoded_as Normal d routes n values = all_decoded d routes n values
-decoded_as Live d routes n values = sym (decoded_alike (is_live d routes) d routes n values)
+decoded_as (Live turns) d routes n values = sym (decoded_alike (is_live d routes) d routes n values)

@@ -5,6 +5,7 @@ use Rattle.rail_base.specs.declared.route.Route.{Route}
 use Rattle.rail_base.specs.declared.plan.Command.{Command}
 use Rattle.clause_spec.specs.declared.question.BaseKind.{BaseKind}
 use Rattle.clause_spec.specs.declared.question.BaseKind.TheVariants.{Plain, Sorted, Normal, Live}
+use Rattle.clause_spec.specs.declared.question.Turns.{Turns}
 use Rattle.clause_spec.specs.declared.question.VariableCounts.{VariableCounts}
 use Rattle.clause_spec.specs.Variables.{pairs}
 use Rattle.base_spec.specs.Bases.{before_selectors, more_variables, variables_of}
@@ -13,6 +14,10 @@ use Rattle.plan_encoding.specs.Bases.{speaks_of}
 use Rattle.plan_encoding.specs.Numberings.{IsNumberingOf, Numbered}
 use Rattle.plan_encoding.proofs.Over.{every_command, every_pair}
 use Rattle.plan_encoding.proofs.Tabled.{commands_many}
+
+-- it is a base of live commands
+abbrev pub IsOfLive : BaseKind → Type 0
+IsOfLive kind = (turns : Turns) × (kind ≡ Live turns)
 
 module _ (d : Station) (routes : List Route) (n : ℕ) where
   -- the variables of all commands by their steps
@@ -27,23 +32,23 @@ module _ (d : Station) (routes : List Route) (n : ℕ) where
   before_is Plain = every_before
   before_is Sorted = every_before
   before_is Normal = every_before
-  before_is Live = refl
+  before_is (Live turns) = refl
 
   pub before_steps : (kind : BaseKind) (b : Numbered) → IsNumberingOf (speaks_of kind d routes) d routes n b → length b.commands * b.steps + length b.pairs ≡ before_selectors kind d routes n
   before_steps kind b is =
       ap₂ (λ a b. a + b) (ap₂ (λ (cs : List Command) m. length cs * m) is.commands is.steps) (ap length is.pairs) ∙ before_is kind
 
   -- no more come behind those of steps
-  none_more : (kind : BaseKind) → (kind ≡ Plain) ⊎ ((kind ≡ Sorted) ⊎ (kind ≡ Live)) → more_variables kind d routes n ≡ 0
+  none_more : (kind : BaseKind) → (kind ≡ Plain) ⊎ ((kind ≡ Sorted) ⊎ IsOfLive kind) → more_variables kind d routes n ≡ 0
   none_more kind (inl e) = ap (λ k. more_variables k d routes n) e
   none_more kind (inr (inl e)) = ap (λ k. more_variables k d routes n) e
-  none_more kind (inr (inr e)) = ap (λ k. more_variables k d routes n) e
+  none_more kind (inr (inr (turns, e))) = ap (λ k. more_variables k d routes n) e
 
   -- or as many as those of commands
   given_more : (kind : BaseKind) (b : Numbered) → IsNumberingOf (speaks_of kind d routes) d routes n b → kind ≡ Normal → length b.commands * b.steps ≡ more_variables kind d routes n
   given_more Plain b is e = absurd (cc)
   given_more Sorted b is e = absurd (cc)
-  given_more Live b is e = absurd (cc)
+  given_more (Live turns) b is e = absurd (cc)
   given_more Normal b is e = ap₂ (λ (cs : List Command) m. length cs * m) is.commands is.steps ∙ every_given
 
   module _ (kind : BaseKind) (b : Numbered) (is : IsNumberingOf (speaks_of kind d routes) d routes n b) (count given many steps : ℕ)
@@ -58,7 +63,7 @@ module _ (d : Station) (routes : List Route) (n : ℕ) where
         cc
 
     -- so these are the counts
-    pub counts_none : (kind ≡ Plain) ⊎ ((kind ≡ Sorted) ⊎ (kind ≡ Live)) → count ≡ given + many + steps → counts count ≡ variables_of kind d routes n
+    pub counts_none : (kind ≡ Plain) ⊎ ((kind ≡ Sorted) ⊎ IsOfLive kind) → count ≡ given + many + steps → counts count ≡ variables_of kind d routes n
     counts_none h e = ap counts (e ∙ zero_more (given + many + steps)) ∙ are_counts 0 (sym (none_more kind h))
       where
         zero_more : (m : ℕ) → m ≡ m + 0

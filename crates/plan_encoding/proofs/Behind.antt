@@ -6,13 +6,14 @@ use Rattle.sat_clause.specs.declared.lit.Lit.{Lit}
 use Rattle.sat_clause.specs.Clauses.{Store}
 use Rattle.rail_base.specs.declared.station.Station.{Station}
 use Rattle.rail_base.specs.declared.route.Route.{Route}
-use Rattle.rail_alike.specs.Tests.{neighbors}
 use Rattle.clause_spec.specs.declared.question.BaseKind.{BaseKind}
 use Rattle.clause_spec.specs.declared.question.BaseKind.TheVariants.{Live, Normal, Plain, Sorted}
+use Rattle.clause_spec.specs.declared.question.Turns.{Turns}
+use Rattle.clause_spec.specs.declared.question.Turns.TheVariants.{All}
 use Rattle.clause_spec.specs.Clauses.{base_clauses, literals, past_limit}
 use Rattle.clause_spec.specs.Laws.{HasFewLiterals}
 use Rattle.clause_spec.proofs.Few.{within_limit}
-use Rattle.alike_clause_spec.specs.Turns.{turn_clauses}
+use Rattle.alike_clause_spec.specs.Turns.{turn_clauses, turn_pairs}
 use Rattle.rail_base.specs.declared.plan.Command.{Command}
 use Rattle.live_clause_spec.specs.Listed.{live_in_turn}
 use Rattle.live_clause_spec.specs.Variables.{live_commands, live_numbered}
@@ -109,11 +110,11 @@ module _ (live : Command → Bool) (base : List (List Lit)) (d : Station) (route
         }
 
 -- a fault of the plain base is one of each base that begins with it
-pub kind_refused : (kind : BaseKind) (d : Station) (routes : List Route) (n : ℕ) (e : BaseFault) → (kind ≡ Live → ⊥) → IsRefused Plain d routes n e → IsRefused kind d routes n e
+pub kind_refused : (kind : BaseKind) (d : Station) (routes : List Route) (n : ℕ) (e : BaseFault) → ((turns : Turns) → kind ≡ Live turns → ⊥) → IsRefused Plain d routes n e → IsRefused kind d routes n e
 kind_refused Plain d routes n e k h = h
-kind_refused Sorted d routes n e k h = more_refused (base_clauses d routes n) (turn_clauses d routes n (neighbors d)) e h
+kind_refused Sorted d routes n e k h = more_refused (base_clauses d routes n) (turn_clauses d routes n (turn_pairs All d)) e h
 kind_refused Normal d routes n e k h = more_refused (base_clauses d routes n) (normal_part d routes n) e h
-kind_refused Live d routes n e k h = absurd (k refl)
+kind_refused (Live turns) d routes n e k h = absurd (k turns refl)
 
 -- ---- a base over the commands that pass a test
 
@@ -143,16 +144,16 @@ of_set d routes n cls all b e is = record {
 }
 
 -- the clauses with turns are the plain ones and then these
-pub turns_parts : (live : Command → Bool) (d : Station) (routes : List Route) (n : ℕ) → turns_base live d routes n ≡ plain_base live d routes n ++ map (map (live_numbered live d routes n)) (flat_map (live_in_turn live d routes n) (neighbors d))
-turns_parts live d routes n = map-append (map (live_numbered live d routes n)) (plain_clauses live d routes n) (flat_map (live_in_turn live d routes n) (neighbors d))
+pub turns_parts : (turns : Turns) (live : Command → Bool) (d : Station) (routes : List Route) (n : ℕ) → turns_base turns live d routes n ≡ plain_base live d routes n ++ map (map (live_numbered live d routes n)) (flat_map (live_in_turn live d routes n) (turn_pairs turns d))
+turns_parts turns live d routes n = map-append (map (live_numbered live d routes n)) (plain_clauses live d routes n) (flat_map (live_in_turn live d routes n) (turn_pairs turns d))
 
 -- and a fault of the plain ones is one of them
-pub turns_refused : (live : Command → Bool) (d : Station) (routes : List Route) (n : ℕ) (e : BaseFault) → AreRefused (plain_base live d routes n) e → AreRefused (turns_base live d routes n) e
-turns_refused live d routes n e h =
-    subst (λ (xs : List (List Lit)). AreRefused xs e) (sym (turns_parts live d routes n))
-    (more_refused (plain_base live d routes n) (map (map (live_numbered live d routes n)) (flat_map (live_in_turn live d routes n) (neighbors d))) e h)
+pub turns_refused : (turns : Turns) (live : Command → Bool) (d : Station) (routes : List Route) (n : ℕ) (e : BaseFault) → AreRefused (plain_base live d routes n) e → AreRefused (turns_base turns live d routes n) e
+turns_refused turns live d routes n e h =
+    subst (λ (xs : List (List Lit)). AreRefused xs e) (sym (turns_parts turns live d routes n))
+    (more_refused (plain_base live d routes n) (map (map (live_numbered live d routes n)) (flat_map (live_in_turn live d routes n) (turn_pairs turns d))) e h)
 
 -- what has the plain ones and then these has them
-pub with_turns_made : (live : Command → Bool) (d : Station) (routes : List Route) (n : ℕ) (a : Base)
-    → HasClauses live (plain_base live d routes n ++ map (map (live_numbered live d routes n)) (flat_map (live_in_turn live d routes n) (neighbors d))) d routes n a → HasClauses live (turns_base live d routes n) d routes n a
-with_turns_made live d routes n a h = subst (λ (cls : List (List Lit)). HasClauses live cls d routes n a) (sym (turns_parts live d routes n)) h
+pub with_turns_made : (turns : Turns) (live : Command → Bool) (d : Station) (routes : List Route) (n : ℕ) (a : Base)
+    → HasClauses live (plain_base live d routes n ++ map (map (live_numbered live d routes n)) (flat_map (live_in_turn live d routes n) (turn_pairs turns d))) d routes n a → HasClauses live (turns_base turns live d routes n) d routes n a
+with_turns_made turns live d routes n a h = subst (λ (cls : List (List Lit)). HasClauses live cls d routes n a) (sym (turns_parts turns live d routes n)) h

@@ -33,7 +33,7 @@ module _ (d : Station) (routes : List Route) (n : ℕ) (cl : Clause) (known : Kn
   left_by_kind Plain cs is = by_commands any cs is ∙ all_left
   left_by_kind Sorted cs is = by_commands any cs is ∙ all_left
   left_by_kind Normal cs is = by_commands any cs is ∙ all_left
-  left_by_kind Live cs is = by_commands (is_live d routes) cs is
+  left_by_kind (Live turns) cs is = by_commands (is_live d routes) cs is
 
 -- the commands of a numbering are a design's, and its pairs those of them that contend
 module _ (live : Command → Bool) (d : Station) (routes : List Route) (n : ℕ) (b : Numbered) (is : IsNumberingOf live d routes n b) where

@@ -5,6 +5,8 @@ use Rattle.rail_base.specs.declared.station.Station.{Station}
 use Rattle.rail_base.specs.declared.route.Route.{Route}
 use Rattle.rail_base.specs.declared.plan.Command.{Command}
 use Rattle.clause_spec.specs.declared.question.BaseKind.TheVariants.{Plain, Sorted}
+use Rattle.clause_spec.specs.declared.question.Turns.{Turns}
+use Rattle.clause_spec.specs.declared.question.Turns.TheVariants.{All}
 use Rattle.clause_spec.specs.Clauses.{base_clauses}
 use Rattle.alike_clause_spec.specs.Sorted.{sorted_base}
 use Rattle.live_clause_spec.specs.Clauses.{base_left}
@@ -30,8 +32,8 @@ module _ (d : Station) (routes : List Route) (n : ℕ) (some : 1 ≤ n) where
   plain_is : plain_base (is_among every) d routes n ≡ base_clauses d routes n
   plain_is = set_plain any d routes n some ∙ all_plain d routes n some
 
-  turns_are : turns_base (is_among every) d routes n ≡ sorted_base d routes n
-  turns_are = set_turns any d routes n some ∙ all_turns d routes n some
+  turns_are : turns_base All (is_among every) d routes n ≡ sorted_base All d routes n
+  turns_are = set_turns any d routes n All some ∙ all_turns d routes n All some
 
   module _ (cs : List Command) (is : cs ≡ every) where
     -- with all commands, plain clauses over the set are the plain base
@@ -49,16 +51,16 @@ module _ (d : Station) (routes : List Route) (n : ℕ) (some : 1 ≤ n) where
     }
 
     -- with turns they are the sorted base
-    pub sorted_of : (b : Base) → IsOver cs turns_base d routes n b → IsBaseOf Sorted d routes n b
-    sorted_of b o = of_test any d routes n some _ _ b turns_are (subst (λ (xs : List Command). HasClauses (is_among xs) (turns_base (is_among xs) d routes n) d routes n b) is o.base)
+    pub sorted_of : (b : Base) → IsOver cs (turns_base All) d routes n b → IsBaseOf Sorted d routes n b
+    sorted_of b o = of_test any d routes n some _ _ b turns_are (subst (λ (xs : List Command). HasClauses (is_among xs) (turns_base All (is_among xs) d routes n) d routes n b) is o.base)
 
-    pub sorted_refused : (e : BaseFault) → AreRefused (turns_base (is_among cs) d routes n) e → IsRefused Sorted d routes n e
-    sorted_refused e h = subst (λ (xs : List (List Lit)). AreRefused xs e) (ap (λ (xs : List Command). turns_base (is_among xs) d routes n) is ∙ turns_are) h
+    pub sorted_refused : (e : BaseFault) → AreRefused (turns_base All (is_among cs) d routes n) e → IsRefused Sorted d routes n e
+    sorted_refused e h = subst (λ (xs : List (List Lit)). AreRefused xs e) (ap (λ (xs : List Command). turns_base All (is_among xs) d routes n) is ∙ turns_are) h
 
   -- over the commands that pass any test, clauses with turns are the base that is left by it
-  module _ (live : Command → Bool) (cs : List Command) (is : cs ≡ live_commands live d routes) where
-    pub left_of : (b : Base) → IsOver cs turns_base d routes n b → HasClauses live (base_left live d routes n) d routes n b
-    left_of b o = of_test live d routes n some _ _ b (set_turns live d routes n some) (subst (λ (xs : List Command). HasClauses (is_among xs) (turns_base (is_among xs) d routes n) d routes n b) is o.base)
+  module _ (turns : Turns) (live : Command → Bool) (cs : List Command) (is : cs ≡ live_commands live d routes) where
+    pub left_of : (b : Base) → IsOver cs (turns_base turns) d routes n b → HasClauses live (base_left turns live d routes n) d routes n b
+    left_of b o = of_test live d routes n some _ _ b (set_turns live d routes n turns some) (subst (λ (xs : List Command). HasClauses (is_among xs) (turns_base turns (is_among xs) d routes n) d routes n b) is o.base)
 
-    pub left_refused : (e : BaseFault) → AreRefused (turns_base (is_among cs) d routes n) e → AreRefused (base_left live d routes n) e
-    left_refused e h = subst (λ (xs : List (List Lit)). AreRefused xs e) (ap (λ (xs : List Command). turns_base (is_among xs) d routes n) is ∙ set_turns live d routes n some) h
+    pub left_refused : (e : BaseFault) → AreRefused (turns_base turns (is_among cs) d routes n) e → AreRefused (base_left turns live d routes n) e
+    left_refused e h = subst (λ (xs : List (List Lit)). AreRefused xs e) (ap (λ (xs : List Command). turns_base turns (is_among xs) d routes n) is ∙ set_turns live d routes n turns some) h

@@ -12,6 +12,7 @@ use Rattle.rail_base.specs.Stations.{trains}
 use Rattle.rail_base.proofs.Lists.{in_count_back, in_filter_back, in_map_back, length-map, length-count}
 use Rattle.rail_base.proofs.Members.{map-map}
 use Rattle.rail_spec.specs.Plans.{all_commands, commands_of, is_command, route_numbers}
+use Rattle.clause_spec.specs.declared.question.Turns.{Turns}
 use Rattle.clause_spec.specs.Variables.{Variable, Given, Before, By, Literal, if_given, is_pair, no, number_of, numbered, pairs, yes}
 use Rattle.clause_spec.specs.Clauses.{Clause, all_given, base_clauses, clauses, excluded, first_pairs, in_order, literals, makes_visits, not_at_once, starts_rightly, stays_given, waits}
 use Rattle.clause_spec.proofs.Families.{KnownAll, clauses_known}
@@ -128,12 +129,12 @@ module _ (live : Command → Bool) (d : Station) (routes : List Route) (n : ℕ)
       (sym (plain_left set d routes n)
       ∙ left_alike set live (clauses d routes n) (λ cl m l i. same_variables set live d routes n (tells_alike live d routes) l.variable (clauses_known d routes n some cl m l i)))
 
-  pub set_turns : 1 ≤ n → turns_base set d routes n ≡ base_left live d routes n
-  set_turns some =
-      written_alike (live_clauses set d routes n)
+  pub set_turns : (turns : Turns) → 1 ≤ n → turns_base turns set d routes n ≡ base_left turns live d routes n
+  set_turns turns some =
+      written_alike (live_clauses turns set d routes n)
       ∙ ap (map (map (live_numbered live d routes n)))
-      (sym (left_is_listed set d routes n)
-      ∙ left_alike set live (sorted_clauses d routes n) (λ cl m l i. same_variables set live d routes n (tells_alike live d routes) l.variable (sorted_known d routes n some cl m l i)))
+      (sym (left_is_listed set d routes n turns)
+      ∙ left_alike set live (sorted_clauses turns d routes n) (λ cl m l i. same_variables set live d routes n (tells_alike live d routes) l.variable (sorted_known turns d routes n some cl m l i)))
 
 -- ---- all commands
 
@@ -215,8 +216,8 @@ module _ (d : Station) (routes : List Route) (n : ℕ) where
   pub all_plain : 1 ≤ n → map (map (live_numbered any d routes n)) (with_dead_false any (clauses d routes n)) ≡ base_clauses d routes n
   all_plain some = ap (map (map (live_numbered any d routes n))) (none_dead (clauses d routes n)) ∙ written_so (clauses d routes n) (clauses_known d routes n some)
 
-  pub all_turns : 1 ≤ n → base_left any d routes n ≡ sorted_base d routes n
-  all_turns some = ap (map (map (live_numbered any d routes n))) (none_dead (sorted_clauses d routes n)) ∙ (written_so (sorted_clauses d routes n) (sorted_known d routes n some) ∙ sym (sorted_are d routes n))
+  pub all_turns : (turns : Turns) → 1 ≤ n → base_left turns any d routes n ≡ sorted_base turns d routes n
+  all_turns turns some = ap (map (map (live_numbered any d routes n))) (none_dead (sorted_clauses turns d routes n)) ∙ (written_so (sorted_clauses turns d routes n) (sorted_known turns d routes n some) ∙ sym (sorted_are turns d routes n))
 
 -- ---- as they are emitted
 

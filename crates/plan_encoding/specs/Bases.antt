@@ -8,6 +8,7 @@ use Rattle.rail_base.specs.Stations.{trains}
 use Rattle.sat_clause.specs.declared.lit.Lit.{Lit}
 use Rattle.clause_spec.specs.declared.question.BaseKind.{BaseKind}
 use Rattle.clause_spec.specs.declared.question.BaseKind.TheVariants.{Plain, Sorted, Normal, Live}
+use Rattle.clause_spec.specs.declared.question.Turns.{Turns}
 use Rattle.clause_spec.specs.Clauses.{Clause, in_order, literals, not_at_once, past_limit, stays_given}
 use Rattle.clause_spec.specs.Laws.{HasFewLiterals}
 use Rattle.base_spec.specs.Bases.{clauses_of}
@@ -26,7 +27,7 @@ abbrev pub speaks_of : BaseKind → Station → List Route → Command → Bool
 speaks_of Plain d routes = λ c. true
 speaks_of Sorted d routes = λ c. true
 speaks_of Normal d routes = λ c. true
-speaks_of Live d routes = is_live d routes
+speaks_of (Live turns) d routes = is_live d routes
 
 -- it is a base of these clauses over the live commands of a design with these routes, for n steps: the clauses are
 -- there in their order, all live, and few
@@ -68,9 +69,9 @@ module _ (live : Command → Bool) (d : Station) (routes : List Route) (n : ℕ)
   abbrev pub plain_base : List (List Lit)
   plain_base = map (map (live_numbered live d routes n)) plain_clauses
 
-  -- with those that trains come in turn
-  abbrev pub turns_base : List (List Lit)
-  turns_base = map (map (live_numbered live d routes n)) (live_clauses live d routes n)
+-- with those that these pairs of trains come in turn
+abbrev pub turns_base : Turns → (Command → Bool) → Station → List Route → ℕ → List (List Lit)
+turns_base turns live d routes n = map (map (live_numbered live d routes n)) (live_clauses turns live d routes n)
 
 -- it is a base of these clauses over commands of a design
 pub record IsOver (cs : List Command) (clauses : (Command → Bool) → Station → List Route → ℕ → List (List Lit))

@@ -2,6 +2,7 @@
 //! base has beside them are emitted once.
 
 ghost use Rattle.std.specs.Prelude.{◌≡◌, [], true, IfOk, OnOk, IfErr};
+ghost use Rattle.alike_clause_spec.specs.Turns.{turn_pairs};
 ghost use Rattle.clause_spec.specs.declared.question.BaseKind.TheVariants.{Live, Normal, Plain};
 ghost use Rattle.command_set.specs.Commands.{AreCommandsOf, is_among};
 ghost use Rattle.plan_encoding.specs.Bases.{AreRefused, IsBaseOf, IsOver, IsRefused, plain_base};
@@ -15,12 +16,15 @@ use crate::encoder::Encoder;
 use crate::normal::NormalEncoder;
 use crate::numbering::{Base, Numbering, number_variables};
 use crate::sink::{BaseFault, ClauseSink};
-use clause_spec::BaseKind;
+use clause_spec::{BaseKind, Turns};
 use command_set::CommandSet;
 use interlocking::{Interlocking, Steps};
 use live_contending::ContendingPairs;
-use rail_alike::neighbors;
-use std::alloc::Global;
+use rail_alike::{neighbors, neighbors_beside};
+use rail_base::design::Design;
+use rail_base::list::List;
+use rail_base::station::TrainNo;
+use std::alloc::{AllocError, Global};
 
 /// The base of a design and its routes, for plans of up to so many steps: the clauses that the model of each feasible
 /// plan makes true, numbered from 1.
@@ -36,14 +40,21 @@ pub fn base(alloc: Global, interlocking: &Interlocking, steps: Steps) -> Result<
     plain_over(alloc, interlocking, steps, commands)
 }
 
-/// The plain clauses over the live commands of a design alone, with those that trains come in turn.
-fn live_base(alloc: Global, interlocking: &Interlocking, steps: Steps) -> Result<Base, BaseFault>
-    ensures base { IfOk result (IsBaseOf Live interlocking.now.design.station interlocking.now.routes steps.count) }
-    ensures fault { IfErr result (IsRefused Live interlocking.now.design.station interlocking.now.routes steps.count) }
+/// The plain clauses over the live commands of a design alone, with those that these trains come in turn.
+fn live_base(
+    alloc: Global,
+    interlocking: &Interlocking,
+    steps: Steps,
+    turns: Turns,
+) -> Result<Base, BaseFault>
+    ensures base { IfOk result
+        (IsBaseOf (Live turns) interlocking.now.design.station interlocking.now.routes steps.count) }
+    ensures fault { IfErr result
+        (IsRefused (Live turns) interlocking.now.design.station interlocking.now.routes steps.count) }
 {
     let commands = CommandSet::live(alloc, interlocking)?;
     let base = plain_over(alloc, interlocking, steps, commands)?;
-    with_turns(alloc, interlocking, base)
+    with_turns(alloc, interlocking, base, turns)
 }
 
 /// The plain clauses over commands of a design, where all others are never given.
@@ -91,14 +102,33 @@ impl Encoder<'_> {
     }
 }
 
-/// A base with the clauses that each train comes in turn with the next one that is like it. Where a plan is feasible,
-/// the model of some plan of no more steps makes all of them true.
-fn with_turns(alloc: Global, interlocking: &Interlocking, base: Base) -> Result<Base, BaseFault>
+/// Each train with the next one that is like it: of all of them, or of those that a within doesn't name.
+fn pairs_in_turn(
+    alloc: Global,
+    design: &Design,
+    turns: Turns,
+) -> Result<List<(TrainNo, TrainNo)>, AllocError>
+    ensures { IfOk result (λ pairs. pairs ≡ turn_pairs turns design.now.station) }
+{
+    match turns {
+        Turns::All => neighbors(alloc, design),
+        Turns::Beside { within } => neighbors_beside(alloc, design, within),
+    }
+}
+
+/// A base with the clauses that each of these trains comes in turn with the next one that is like it. Where a plan is
+/// feasible, the model of some plan of no more steps makes all of them true.
+fn with_turns(
+    alloc: Global,
+    interlocking: &Interlocking,
+    base: Base,
+    turns: Turns,
+) -> Result<Base, BaseFault>
     requires base { IsOver base.numbering.commands plain_base
         interlocking.now.design.station interlocking.now.routes base.numbering.steps base }
-    ensures base { IfOk result (IsOver base.numbering.commands turns_base
+    ensures base { IfOk result (IsOver base.numbering.commands (turns_base turns)
         interlocking.now.design.station interlocking.now.routes base.numbering.steps) }
-    ensures fault { IfErr result (AreRefused (turns_base (is_among base.numbering.commands)
+    ensures fault { IfErr result (AreRefused (turns_base turns (is_among base.numbering.commands)
         interlocking.now.design.station interlocking.now.routes base.numbering.steps)) }
 {
     let Base {
@@ -106,14 +136,14 @@ fn with_turns(alloc: Global, interlocking: &Interlocking, base: Base) -> Result<
         clauses,
         literals,
     } = base;
-    let neighbors = neighbors(alloc, &interlocking.design)?;
+    let turn_pairs = pairs_in_turn(alloc, &interlocking.design, turns)?;
     let mut sink = ClauseSink::behind(clauses, literals);
     let encoder = Encoder {
         interlocking,
         steps: numbering.steps(),
         pairs: numbering.pairs(),
     };
-    encoder.emit_turns(alloc, &mut sink, neighbors.as_slice())?;
+    encoder.emit_turns(alloc, &mut sink, turn_pairs.as_slice())?;
     let literals = sink.literals();
     Ok(Base {
         numbering,
@@ -193,11 +223,11 @@ pub fn extended(
     let steps = base.numbering.steps();
     match kind {
         BaseKind::Plain => Ok(base),
-        BaseKind::Sorted => with_turns(alloc, interlocking, base),
+        BaseKind::Sorted => with_turns(alloc, interlocking, base, Turns::All),
         BaseKind::Normal => with_normal(alloc, interlocking, base),
-        BaseKind::Live => {
+        BaseKind::Live(turns) => {
             drop(base);
-            live_base(alloc, interlocking, steps)
+            live_base(alloc, interlocking, steps, turns)
         }
     }
 }
@@ -216,8 +246,8 @@ pub fn base_of(
     ensures base { IfOk result (IsBaseOf kind interlocking.now.design.station interlocking.now.routes steps.count) }
     ensures fault { IfErr result (IsRefused kind interlocking.now.design.station interlocking.now.routes steps.count) }
 {
-    if kind == BaseKind::Live {
-        return live_base(alloc, interlocking, steps);
+    if let BaseKind::Live(turns) = kind {
+        return live_base(alloc, interlocking, steps, turns);
     }
     match base(alloc, interlocking, steps) {
         Ok(base) => extended(alloc, interlocking, base, kind),

@@ -113,7 +113,7 @@ impl Numbering {
         let count = before_selectors + self.steps.count;
         VariableCounts {
             count: match kind {
-                BaseKind::Plain | BaseKind::Sorted | BaseKind::Live => count,
+                BaseKind::Plain | BaseKind::Sorted | BaseKind::Live(_) => count,
                 BaseKind::Normal => count + given,
             },
             before_selectors,

@@ -68,7 +68,7 @@ impl FailedPlan<'_, '_> {
     {
         match self.kind {
             BaseKind::Plain | BaseKind::Normal => self.by_cone(alloc),
-            BaseKind::Sorted | BaseKind::Live => match self.by_bounds(alloc, finder)? {
+            BaseKind::Sorted | BaseKind::Live(_) => match self.by_bounds(alloc, finder)? {
                 Some(exclusion) => Ok(exclusion),
                 None => self.by_cone(alloc),
             },

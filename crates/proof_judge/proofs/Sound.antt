@@ -1,5 +1,5 @@
 -- A file that shows k shows that no plan of k steps is feasible.
-use Rattle.std.proofs.Common.{◌≡◌, ◌≤◌, ◌<◌, ℕ, Bool, true, false, not, ◌&&◌, ◌==◌, if◌then◌else◌, List, [], ◌∷◌, map, refl, ap, sym, ◌∙◌, arith, le_refl, is_some, Option, Some, None, Ok}
+use Rattle.std.proofs.Common.{◌≡◌, ◌≤◌, ◌<◌, ℕ, Bool, true, false, not, ◌&&◌, if◌then◌else◌, List, [], ◌∷◌, map, refl, ap, sym, ◌∙◌, arith, le_refl, is_some, Option, Some, None, Ok}
 use Rattle.std.specs.List.{list_all}
 use Rattle.rail_text.specs.Pieces.{pieces}
 use Rattle.base_spec.specs.Bases.{HasModelFor, clauses_of, left_in}
@@ -36,7 +36,7 @@ use Rattle.rail_spec.specs.Feasible.{IsFeasible, IsInfeasible}
 use Rattle.rail_spec.specs.Track.{routes_of}
 use Rattle.sat_clause.specs.Clauses.{clause_holds}
 use Rattle.sat_clause.specs.declared.lit.Lit.{Lit}
-use Rattle.proof_judge.specs.Judged.{all_live, clause_said, clauses_under, fault_of, not_in_design, variables_under, judged_by, judged_under, refuted, YesIsInfeasible}
+use Rattle.proof_judge.specs.Judged.{is_asked_of, all_live, clause_said, clauses_under, fault_of, not_in_design, variables_under, judged_by, judged_under, refuted, YesIsInfeasible}
 use Rattle.proof_judge.proofs.Below.{clause_known, numbers_said}
 use Rattle.proof_judge.proofs.Showing.{none_of, shown_valid}
 
@@ -80,7 +80,7 @@ under_so d admitted head n k bytes some e =
 by_so : (d : Station) → IsAdmitted d → (n k : ℕ) (bytes : List ℕ) → 1 ≤ n → (head : Option Head) → judged_by d n bytes head ≡ Yes k → (1 ≤ k) × ((k ≤ n) × IsInfeasible d k)
 by_so d admitted n k bytes some None e = under_so d admitted Unnamed n k bytes some e
 by_so d admitted n k bytes some (Some Unnamed) e = under_so d admitted Unnamed n k bytes some e
-by_so d admitted n k bytes some (Some (Of q)) e = go (not (q.version == d.version && q.steps == n)) (is_some (past_limit 16000000 0 (clauses_under (Of q) d n))) e
+by_so d admitted n k bytes some (Some (Of q)) e = go (not (is_asked_of q d n)) (is_some (past_limit 16000000 0 (clauses_under (Of q) d n))) e
   where
     go : (differs large : Bool) → (if differs then No 1 HeadDiffers else if large then No 1 BaseTooLarge else judged_under (Of q) d n bytes) ≡ Yes k → (1 ≤ k) × ((k ≤ n) × IsInfeasible d k)
     go true large e = absurd (cc)

@@ -1,5 +1,5 @@
 -- What a file shows under a head, by a base that was made of the design.
-use Rattle.std.proofs.Common.{◌≡◌, ℕ, true, false, not, ◌&&◌, ◌==◌, if◌then◌else◌, is_some, Option, None, Some, List, Result, IfErr, IfOk, sym, ap, ◌∙◌, subst}
+use Rattle.std.proofs.Common.{◌≡◌, ℕ, true, false, not, if◌then◌else◌, is_some, Option, None, Some, List, Result, IfErr, IfOk, sym, ap, ◌∙◌, subst}
 use Rattle.log_checker.specs.declared.check_result.CheckResult.{CheckResult}
 use Rattle.log_checker.specs.declared.check_result.CheckResult.TheVariants.{No}
 use Rattle.log_checker.specs.declared.check_result.Reason.TheVariants.{HeadDiffers, BaseTooLarge}
@@ -21,7 +21,7 @@ use Rattle.rail_spec.specs.Track.{routes_of}
 use Rattle.rail_text.specs.Pieces.{pieces}
 use Rattle.proof_judge.specs.Outcomes.{IsPast}
 use Rattle.sat_clause.specs.Clauses.{Store}
-use Rattle.proof_judge.specs.Judged.{all_live, base_named, clauses_under, judged_by, judged_under, past_first, past_plain, refuted, variables_under}
+use Rattle.proof_judge.specs.Judged.{all_live, base_named, clauses_under, is_asked_of, judged_by, judged_under, past_first, past_plain, refuted, variables_under}
 
 module _ {E : Type 0} (d : Station) (n : ℕ) (bytes : List ℕ) (r : Result CheckResult E) where
   -- what was shown over these clauses and variables
@@ -33,7 +33,7 @@ module _ {E : Type 0} (d : Station) (n : ℕ) (bytes : List ℕ) (r : Result Che
       (subst (λ (z : Store). IfOk r (λ shown. shown ≡ log_verdict head (refuted (base_of head) d steps) variables z bytes)) c h))
 
   -- under a head that names this question
-  pub under_question : (q : Question) (steps : ℕ) → steps ≡ n → (q.version == d.version && q.steps == n) ≡ true → past_limit 16000000 0 (clauses_under (Of q) d n) ≡ None
+  pub under_question : (q : Question) (steps : ℕ) → steps ≡ n → is_asked_of q d n ≡ true → past_limit 16000000 0 (clauses_under (Of q) d n) ≡ None
       → IfOk r (λ shown. shown ≡ judged_under (Of q) d steps bytes) → IfOk r (λ shown. shown ≡ judged_by d n bytes (Some (Of q)))
   under_question q steps s asked fits h =
       let same : judged_by d n bytes (Some (Of q)) ≡ judged_under (Of q) d n bytes =
@@ -46,12 +46,12 @@ module _ {E : Type 0} (d : Station) (n : ℕ) (bytes : List ℕ) (r : Result Che
 
 module _ (d : Station) (n : ℕ) (bytes : List ℕ) (q : Question) where
   -- a head that names another question
-  pub differs : (q.version == d.version && q.steps == n) ≡ false → No 1 HeadDiffers ≡ judged_by d n bytes (Some (Of q))
+  pub differs : is_asked_of q d n ≡ false → No 1 HeadDiffers ≡ judged_by d n bytes (Some (Of q))
   differs other =
       sym (ap (λ b. if not b then No 1 HeadDiffers else if is_some (past_limit 16000000 0 (clauses_under (Of q) d n)) then No 1 BaseTooLarge else judged_under (Of q) d n bytes) other)
 
   -- too many clauses
-  pub too_large : (k : ℕ) → (q.version == d.version && q.steps == n) ≡ true → past_limit 16000000 0 (clauses_under (Of q) d n) ≡ Some k → No 1 BaseTooLarge ≡ judged_by d n bytes (Some (Of q))
+  pub too_large : (k : ℕ) → is_asked_of q d n ≡ true → past_limit 16000000 0 (clauses_under (Of q) d n) ≡ Some k → No 1 BaseTooLarge ≡ judged_by d n bytes (Some (Of q))
   too_large k asked large =
       sym (ap (λ b. if not b then No 1 HeadDiffers else if is_some (past_limit 16000000 0 (clauses_under (Of q) d n)) then No 1 BaseTooLarge else judged_under (Of q) d n bytes) asked
       ∙ ap (λ o. if is_some o then No 1 BaseTooLarge else judged_under (Of q) d n bytes) large)

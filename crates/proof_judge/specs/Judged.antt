@@ -1,5 +1,5 @@
 -- What a proof file shows of a design.
-use Rattle.std.specs.Prelude.{◌≡◌, ℕ, ◌≤◌, ◌==◌, true, not, ◌&&◌, if◌then◌else◌, List, map, option_map, Option, Some, None}
+use Rattle.std.specs.Prelude.{◌≡◌, ℕ, ◌≤◌, ◌==◌, Bool, true, not, ◌&&◌, if◌then◌else◌, List, length, map, option_map, Option, Some, None}
 use Rattle.std.specs.Prelude.{is_some, Result, Ok, Err}
 use Rattle.rail_text.specs.Pieces.{pieces}
 use Rattle.base_spec.specs.Bases.{clauses_of, left_in, variables_of}
@@ -12,12 +12,15 @@ use Rattle.log_checker.specs.Verdict.{head_in, log_verdict}
 use Rattle.clause_spec.specs.Clauses.{Clause, past_limit}
 use Rattle.clause_spec.specs.declared.question.BaseKind.{BaseKind}
 use Rattle.clause_spec.specs.declared.question.BaseKind.TheVariants.{Plain, Sorted, Normal, Live}
+use Rattle.clause_spec.specs.declared.question.Turns.TheVariants.{Beside}
+use Rattle.clause_spec.specs.declared.question.Question.{Question}
 use Rattle.clause_spec.specs.declared.question.VariableCounts.{VariableCounts}
 use Rattle.proof_log.specs.declared.head.Head.{Head}
 use Rattle.proof_log.specs.declared.head.Head.TheVariants.{Unnamed, Of}
 use Rattle.proof_log.specs.Heads.{base_of}
 use Rattle.rail_base.specs.declared.route.Route.{Route}
 use Rattle.rail_base.specs.declared.station.Station.{Station}
+use Rattle.rail_base.specs.Admission.{is_from}
 use Rattle.rail_base.specs.Admitted.{IsAdmitted}
 use Rattle.bound_spec.specs.declared.Evidence.{Evidence}
 use Rattle.bound_spec.specs.declared.Evidence.TheVariants as evidence
@@ -74,10 +77,19 @@ abbrev pub judged_under : Head → Station → ℕ → List ℕ → CheckResult
 judged_under head d n bytes =
     log_verdict head (refuted (base_of head) d n) (variables_under head d n) (all_live (clauses_under head d n)) bytes
 
--- the same, where a head that names a question names this version of designs and so many steps, and its clauses are not too many
+-- a within that a base names is one of the design
+abbrev pub names_within : BaseKind → Station → Bool
+names_within (Live (Beside w)) d = is_from 1 (length d.withins) w
+names_within _ d = true
+
+-- it is asked of designs of this version and of so many steps, and names nothing that the design hasn't
+abbrev pub is_asked_of : Question → Station → ℕ → Bool
+is_asked_of q d n = names_within q.base d && q.version == d.version && q.steps == n
+
+-- the same, where the question that a head names is asked of this, and its clauses are not too many
 abbrev pub judged_by : Station → ℕ → List ℕ → Option Head → CheckResult
 judged_by d n bytes (Some (Of q)) =
-    if not (q.version == d.version && q.steps == n) then No 1 HeadDiffers
+    if not (is_asked_of q d n) then No 1 HeadDiffers
     else if is_some (past_limit 16000000 0 (clauses_under (Of q) d n)) then No 1 BaseTooLarge
     else judged_under (Of q) d n bytes
 judged_by d n bytes (Some Unnamed) = judged_under Unnamed d n bytes
@@ -91,7 +103,7 @@ abbrev pub past_first : BaseKind → Station → List Route → ℕ → Option �
 past_first Plain d routes n = past_limit 16000000 0 (clauses_of Plain d routes n)
 past_first Sorted d routes n = past_limit 16000000 0 (clauses_of Plain d routes n)
 past_first Normal d routes n = past_limit 16000000 0 (clauses_of Plain d routes n)
-past_first Live d routes n = None
+past_first (Live turns) d routes n = None
 
 -- the base that a file speaks of by its head, if it has one
 abbrev pub base_named : Option Head → BaseKind

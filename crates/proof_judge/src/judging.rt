@@ -1,6 +1,6 @@
 //! A proof file judged over the clauses of a design.
 
-ghost use Rattle.std.specs.Prelude.{◌≡◌, ℕ, ◌==◌, ◌&&◌, None, IfErr, IfOk, Ok, Some};
+ghost use Rattle.std.specs.Prelude.{◌≡◌, ℕ, None, IfErr, IfOk, Ok, Some};
 ghost use Rattle.std.specs.Option.{ForSome};
 ghost use Rattle.rail_spec.specs.Feasible.{IsInfeasible};
 ghost use Rattle.log_checker.specs.declared.check_result.CheckResult.TheVariants.{No, Yes};
@@ -10,16 +10,18 @@ ghost use Rattle.clause_spec.specs.declared.question.BaseKind.TheVariants.{Plain
 ghost use Rattle.plan_encoding.specs.Bases.{IsBaseOf};
 ghost use Rattle.proof_log.specs.declared.head.Head.TheVariants.{Of, Unnamed};
 ghost use Rattle.proof_log.specs.Heads.{base_of};
-ghost use Rattle.proof_judge.specs.Judged.{judged, judged_by, judged_under, past_first, past_plain, refuted};
+ghost use Rattle.proof_judge.specs.Judged.{is_asked_of, judged, judged_by, judged_under, names_within};
+ghost use Rattle.proof_judge.specs.Judged.{past_first, past_plain, refuted};
 ghost use Rattle.proof_judge.specs.Outcomes.{IsIfSmall, IsPast, IsTooLarge};
 
 use crate::evidence::ByDesign;
-use clause_spec::{BaseKind, Question, VariableCounts};
+use clause_spec::{BaseKind, Question, Turns, VariableCounts};
 use cone_clause::Contention;
 use interlocking::{Interlocking, Steps};
 use log_checker::{CheckResult, Reason, head_in, judge_log};
 use plan_encoding::{Base, BaseFault, base, base_of, extended};
 use proof_log::Head;
+use rail_base::design::Design;
 use sat_clause::Arena;
 use std::alloc::{AllocError, Global};
 
@@ -55,11 +57,24 @@ fn bad_head(reason: Reason) -> CheckResult
     CheckResult::No { line: 1, reason }
 }
 
-/// Whether a question is asked of designs of this version and of so many steps.
-fn is_asked_of(question: Question, interlocking: &Interlocking, steps: Steps) -> bool
-    ensures { result ≡ (question.version == interlocking.now.design.station.version && question.steps == steps.count) }
+/// Whether a within that a base names is one of the design.
+fn names_within(base: BaseKind, design: &Design) -> bool
+    ensures { result ≡ names_within base design.now.station }
 {
-    question.version == u64::from(interlocking.design.station.version)
+    match base {
+        BaseKind::Live(Turns::Beside { within }) => {
+            1 <= within && within <= design.station.withins.len() as u64
+        }
+        BaseKind::Plain | BaseKind::Sorted | BaseKind::Normal | BaseKind::Live(Turns::All) => true,
+    }
+}
+
+/// Whether a question is asked of designs of this version and of so many steps, and names nothing that the design hasn't.
+fn is_asked_of(question: Question, interlocking: &Interlocking, steps: Steps) -> bool
+    ensures { result ≡ is_asked_of question interlocking.now.design.station steps.count }
+{
+    names_within(question.base, &interlocking.design)
+        && question.version == u64::from(interlocking.design.station.version)
         && question.steps == u64::from(steps.count)
 }
 
@@ -80,7 +95,7 @@ fn named_base(
     ensures fault { let i = interlocking.now in
         IfErr result (IsPast (past_first kind i.design.station i.routes steps.count)) }
 {
-    if kind == BaseKind::Live {
+    if let BaseKind::Live(_) = kind {
         return if_small(base_of(alloc, interlocking, steps, kind));
     }
     let plain = base(alloc, interlocking, steps)?;

@@ -16,7 +16,7 @@ use Rattle.cone_spec.specs.declared.Cone.{Cone}
 use Rattle.cone_spec.specs.declared.ConeTrain.{ConeTrain}
 use Rattle.sat_clause.specs.declared.lit.Lit.{Lit}
 use Rattle.proof_log.specs.Words.{greatest_variable, greatest_clause_number, is_from_1_to, is_small, is_plain, is_space, line_words, plain_number_of, if_small, small_number_of, if_from_1_to, variable_of, route_of, clause_number_of, literal_of, is_end, member_before, members_of}
-use Rattle.proof_log.specs.Parts.{WithRest, made, with_next, first_of, has_member, if_any, parts_of, all_parts, small_number, two_numbers, plain_number, two_plain_numbers, command_by, command, violation, is_nothing, written_holder, train_prefix, train_path, train_by, cone_train, pair, cone}
+use Rattle.proof_log.specs.Parts.{WithRest, made, with_next, first_of, has_member, if_any, parts_of, all_parts, small_number, two_numbers, plain_number, three_plain_numbers, two_plain_numbers, command_by, command, violation, is_nothing, written_holder, train_prefix, train_path, train_by, cone_train, pair, cone}
 use Rattle.proof_log.specs.ConeText.{literal_word, route_word, list_words, command_words, violation_words, holder_words, train_words, pair_words, cone_line_words, keeps_command, keeps_violation, keeps_holder, keeps_path, keeps_train, keeps_pair, keeps_cone}
 use Rattle.proof_log.proofs.Written.{stops, none-back, marked, after_mark, zero-word}
 use Rattle.sat_clause.proofs.Sound.{both}
@@ -176,6 +176,9 @@ module _ (back : NumbersReadBack) where
   pub plain_numbers-read : Back (λ n. decimal n.0 ∷ decimal n.1 ∷ []) (λ n. is_plain n.0 && is_plain n.1) two_plain_numbers
   plain_numbers-read = next-back (λ n. decimal n ∷ []) is_plain plain_number (λ n. decimal n ∷ []) is_plain plain_number plain-read plain-read
 
+  pub three_plain_numbers-read : Back (λ n. (decimal n.0.0 ∷ decimal n.0.1 ∷ []) ++ decimal n.1 ∷ []) (λ n. is_plain n.0.0 && is_plain n.0.1 && is_plain n.1) three_plain_numbers
+  three_plain_numbers-read = next-back (λ n. decimal n.0 ∷ decimal n.1 ∷ []) (λ n. is_plain n.0 && is_plain n.1) two_plain_numbers (λ n. decimal n ∷ []) is_plain plain_number plain_numbers-read plain-read
+
   command-read : Back command_words keeps_command command
   command-read = made-back command_by (λ c. (c.train.0, c.route.0)) (λ n. decimal n.0 ∷ decimal n.1 ∷ []) (λ n. is_small n.0 && is_small n.1) command_words keeps_command two_numbers (λ c h. (refl, refl, h)) numbers-read
 
@@ -321,6 +324,12 @@ numbers-spaceless m n h = let p = both (is_small m) (is_small n) h in rw (small-
 
 pub plain_numbers-spaceless : (m n : ℕ) → (is_plain m && is_plain n) ≡ true → list_all spaceless (decimal m ∷ decimal n ∷ []) ≡ true
 plain_numbers-spaceless m n h = let p = both (is_plain m) (is_plain n) h in rw (number-spaceless m p.0, number-spaceless n p.1) refl
+
+pub three_plain_numbers-spaceless : (l m n : ℕ) → (is_plain l && is_plain m && is_plain n) ≡ true → list_all spaceless (decimal l ∷ decimal m ∷ decimal n ∷ []) ≡ true
+three_plain_numbers-spaceless l m n h =
+    let p = both (is_plain l && is_plain m) (is_plain n) h in
+    let q = both (is_plain l) (is_plain m) p.0 in
+    rw (number-spaceless l q.0, number-spaceless m q.1, number-spaceless n p.1) refl
 
 violation-spaceless : (v : Violation) → keeps_violation v ≡ true → list_all spaceless (violation_words v) ≡ true
 violation-spaceless (Path train visit) h = numbers-spaceless train.0 visit h

@@ -9,7 +9,7 @@ use Rattle.rail_base.specs.declared.plan.Violation.TheVariants.{Within, Order}
 use Rattle.rail_base.specs.declared.route.RouteNo.{RouteNo}
 use Rattle.cone_spec.specs.declared.ConeTrain.{ConeTrain}
 use Rattle.proof_log.specs.Words.{greatest_variable, greatest_clause_number, is_from_1_to, is_small, is_plain, plain_number_of, small_number_of, route_of, members_of}
-use Rattle.proof_log.specs.Parts.{WithRest, made, with_next, first_of, has_member, if_any, part_before, parts_of, all_parts, small_number, two_numbers, plain_number, two_plain_numbers, command_by, command, path_by, grant_by, visit_by, violation_of, violation, is_nothing, written_holder, train_prefix, train_path, train_by, cone_train, pair, cone_by, cone}
+use Rattle.proof_log.specs.Parts.{WithRest, made, with_next, first_of, has_member, if_any, part_before, parts_of, all_parts, small_number, two_numbers, plain_number, three_plain_numbers, two_plain_numbers, command_by, command, path_by, grant_by, visit_by, violation_of, violation, is_nothing, written_holder, train_prefix, train_path, train_by, cone_train, pair, cone_by, cone}
 use Rattle.proof_log.specs.Lines.{if_all}
 use Rattle.proof_log.specs.ConeText.{route_word, list_words, command_words, violation_words, holder_words, train_words, pair_words, cone_line_words, keeps_command, keeps_violation, keeps_holder, keeps_path, keeps_train, keeps_pair, keeps_cone}
 use Rattle.proof_log.proofs.Parsed.{plain-parsed, small-parsed, route-parsed, members-parsed}
@@ -143,6 +143,9 @@ keeps_plain_numbers n = is_plain n.0 && is_plain n.1
 
 pub plain_numbers-told : (words : List (List ℕ)) → IsWritten numbers_words keeps_plain_numbers words (two_plain_numbers words)
 plain_numbers-told words = next-told (λ n. decimal n ∷ []) is_plain (λ n. decimal n ∷ []) is_plain plain_number plain_number-told words (plain_number words) (plain_number-told words)
+
+pub three_plain_numbers-told : (words : List (List ℕ)) → IsWritten (λ n. numbers_words n.0 ++ decimal n.1 ∷ []) (λ n. keeps_plain_numbers n.0 && is_plain n.1) words (three_plain_numbers words)
+three_plain_numbers-told words = next-told numbers_words keeps_plain_numbers (λ n. decimal n ∷ []) is_plain plain_number plain_number-told words (two_plain_numbers words) (plain_numbers-told words)
 
 command-told : (words : List (List ℕ)) → IsWritten command_words keeps_command words (command words)
 command-told words = made-told command_by numbers_words keeps_numbers command_words keeps_command (λ n h. (refl, h)) words (two_numbers words) (numbers-told words)

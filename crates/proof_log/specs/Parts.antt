@@ -72,6 +72,9 @@ plain_number words = first_of plain_number_of words
 abbrev pub two_plain_numbers : WithRest (ℕ × ℕ)
 two_plain_numbers words = with_next (plain_number words) plain_number
 
+abbrev pub three_plain_numbers : WithRest ((ℕ × ℕ) × ℕ)
+three_plain_numbers words = with_next (two_plain_numbers words) plain_number
+
 -- a command, by its train and its route
 abbrev pub command_by : ℕ × ℕ → Command
 command_by numbers = record { train = record { 0 = numbers.0 }; route = record { 0 = numbers.1 } }

@@ -1,15 +1,15 @@
 //! The first line of a proof file.
 
-ghost use Rattle.std.specs.Prelude.{◌≡◌, ◌++◌, ◌∷◌, [], IfOk, Some, decimal};
+ghost use Rattle.std.specs.Prelude.{◌≡◌, ◌++◌, ◌∷◌, [], IfOk, Some, codes, decimal};
 ghost use Rattle.proof_log.specs.Lines.{if_all};
-ghost use Rattle.proof_log.specs.Heads.{base_of, base_of_word, head_of, head_after, head_of_question, head_of_version, head_text};
+ghost use Rattle.proof_log.specs.Heads.{base_of, base_of_word, head_of, head_after, head_beside, head_of_question, head_of_version, head_text};
 ghost use Rattle.proof_log.specs.Reading.{words_left};
 ghost use Rattle.proof_log.specs.Writing.{spaced};
 
 use crate::cone_text::put_spaced;
-use crate::parts::two_plain_numbers;
+use crate::parts::{three_plain_numbers, two_plain_numbers};
 use crate::words::first_word;
-use clause_spec::{BaseKind, Question};
+use clause_spec::{BaseKind, Question, Turns};
 use std::alloc::{AllocError, Global};
 
 /// What the first line of a proof file says of the clauses before the other lines.
@@ -78,9 +78,16 @@ pub fn write_head(alloc: Global, head: Head) -> Result<Vec<u8>, AllocError>
             Question {
                 version,
                 steps,
-                base: BaseKind::Live,
+                base: BaseKind::Live(Turns::All),
             },
         ) => write_named(alloc, b"rcvlog 5", version, steps),
+        Head::Of(
+            Question {
+                version,
+                steps,
+                base: BaseKind::Live(Turns::Beside { within }),
+            },
+        ) => write_beside(alloc, version, steps, within),
     }
 }
 
@@ -95,7 +102,7 @@ fn whole(head: Head, after: Option<&[u8]>) -> Option<Head>
     Some(head)
 }
 
-/// The base that the version of a file names.
+/// The base that the version of a file names alone.
 fn base_of_word(word: &[u8]) -> Option<BaseKind>
     ensures { result ≡ base_of_word word.now }
 {
@@ -106,7 +113,7 @@ fn base_of_word(word: &[u8]) -> Option<BaseKind>
     } else if word == b"3".as_slice() {
         Some(BaseKind::Normal)
     } else if word == b"5".as_slice() {
-        Some(BaseKind::Live)
+        Some(BaseKind::Live(Turns::All))
     } else {
         None
     }
@@ -125,12 +132,29 @@ fn head_of_question(base: BaseKind, text: Option<&[u8]>) -> Option<Head>
     whole(Head::Of(question), after)
 }
 
+/// The head of a question of trains beside a within, by the version of the design, the number of steps and that of the
+/// within.
+fn head_beside(text: Option<&[u8]>) -> Option<Head>
+    ensures { result ≡ head_beside (words_left text.entry) }
+{
+    let (((version, steps), within), after) = three_plain_numbers(text)?;
+    let question = Question {
+        version,
+        steps,
+        base: BaseKind::Live(Turns::Beside { within }),
+    };
+    whole(Head::Of(question), after)
+}
+
 /// The head of a version of the file, by the words after it.
 fn head_of_version(version: &[u8], text: Option<&[u8]>) -> Option<Head>
     ensures { result ≡ head_of_version version.now (words_left text.entry) }
 {
     if version == b"1".as_slice() {
         return whole(Head::Unnamed, text);
+    }
+    if version == b"6".as_slice() {
+        return head_beside(text);
     }
     head_of_question(base_of_word(version)?, text)
 }
@@ -150,5 +174,17 @@ fn write_named(alloc: Global, words: &[u8], version: u64, steps: u64) -> Result<
     let mut text = Vec::from_slice(alloc, words)?;
     put_spaced(&mut text, version)?;
     put_spaced(&mut text, steps)?;
+    Ok(text)
+}
+
+/// The text of a head of a question of trains beside a within.
+fn write_beside(alloc: Global, version: u64, steps: u64, within: u64) -> Result<Vec<u8>, AllocError>
+    ensures { IfOk result (λ text. text.items ≡ codes "rcvlog 6"
+        ++ spaced (decimal version ∷ decimal steps ∷ decimal within ∷ [])) }
+{
+    let mut text = Vec::from_slice(alloc, b"rcvlog 6")?;
+    put_spaced(&mut text, version)?;
+    put_spaced(&mut text, steps)?;
+    put_spaced(&mut text, within)?;
     Ok(text)
 }

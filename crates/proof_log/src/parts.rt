@@ -3,7 +3,7 @@
 ghost use Rattle.std.specs.Prelude.{◌≡◌};
 ghost use Rattle.rail_base.specs.declared.plan.Violation.TheVariants.{Within, Order};
 ghost use Rattle.proof_log.specs.Parts.{made, small_number, two_numbers, plain_number, two_plain_numbers};
-ghost use Rattle.proof_log.specs.Parts.{train_prefix, command, pair};
+ghost use Rattle.proof_log.specs.Parts.{three_plain_numbers, train_prefix, command, pair};
 ghost use Rattle.proof_log.specs.Parts.{path_by};
 ghost use Rattle.proof_log.specs.Parts.{grant_by, visit_by, violation, violation_of, written_holder};
 ghost use Rattle.proof_log.specs.Reading.{words_left, with_words};
@@ -48,6 +48,15 @@ pub fn two_plain_numbers(text: Option<&[u8]>) -> Option<((u64, u64), Option<&[u8
     let (first, after) = plain_number(text)?;
     let (second, after) = plain_number(after)?;
     Some(((first, second), after))
+}
+
+/// Three numbers of at most 18 digits each.
+pub fn three_plain_numbers(text: Option<&[u8]>) -> Option<(((u64, u64), u64), Option<&[u8]>)>
+    ensures { with_words result ≡ three_plain_numbers (words_left text.entry) }
+{
+    let (numbers, after) = two_plain_numbers(text)?;
+    let (last, after) = plain_number(after)?;
+    Some(((numbers, last), after))
 }
 
 /// A train, its horizon, and how many of its commands are free.

@@ -98,7 +98,7 @@ first_fits : (m : BaseKind) (n : ℕ) (d : Station) → past_limit 16000000 0 (c
 first_fits Plain n d h = h
 first_fits Sorted n d h = prefix_fits 16000000 0 (base_clauses d (routes_of d) n) _ h
 first_fits Normal n d h = prefix_fits 16000000 0 (base_clauses d (routes_of d) n) _ h
-first_fits Live n d h = refl
+first_fits (Live turns) n d h = refl
 
 not_many : (d : Station) (many : Option ℕ) (e : Station) → unless_too_large d many ≡ Ok e → many ≡ None
 not_many d None e h = refl

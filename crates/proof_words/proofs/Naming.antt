@@ -1,5 +1,5 @@
 -- In a file that shows that there is no plan each cone and each bound names what the design has.
-use Rattle.std.proofs.Common.{◌≡◌, ℕ, ◌+◌, Bool, true, false, not, ◌&&◌, ◌==◌, suc, zero, List, [], ◌∷◌, All, get_or, Option, Some, None, Result, Ok, Err, is_none, is_some, if◌then◌else◌, refl, sym, ap, ◌∙◌, arith}
+use Rattle.std.proofs.Common.{◌≡◌, ℕ, ◌+◌, Bool, true, false, not, suc, zero, List, [], ◌∷◌, All, get_or, Option, Some, None, Result, Ok, Err, is_none, is_some, if◌then◌else◌, refl, sym, ap, ◌∙◌, arith}
 use Rattle.rail_base.specs.declared.station.Station.{Station}
 use Rattle.rail_base.specs.Numbering.{after_first}
 use Rattle.rail_base.proofs.Members.{and_left}
@@ -27,7 +27,7 @@ use Rattle.proof_log.specs.Heads.{base_of}
 use Rattle.proof_log.specs.declared.line.Line.{Line}
 use Rattle.proof_log.specs.declared.line.Line.TheVariants.{Derive, Refute, Forget}
 use Rattle.proof_log.specs.Lines.{line_in_bytes}
-use Rattle.proof_judge.specs.Judged.{all_live, clause_said, clauses_under, fault_of as fault_of_evidence, judged, judged_by, judged_under, not_in_design, refuted, variables_under}
+use Rattle.proof_judge.specs.Judged.{all_live, clause_said, clauses_under, is_asked_of, fault_of as fault_of_evidence, judged, judged_by, judged_under, not_in_design, refuted, variables_under}
 use Rattle.proof_judge.proofs.Showing.{none_of, shown_valid}
 use Rattle.cone_spec.specs.Validity as cone
 use Rattle.evidence_words.specs.Sentences.{names_what_is_there}
@@ -134,7 +134,7 @@ module _ (d : Station) (n : ℕ) where
   by_shown : (bytes : List ℕ) (head : Option Head) (k : ℕ) → judged_by d n bytes head ≡ Yes k → AllShow bytes
   by_shown bytes None k found = under_shown Unnamed bytes k found
   by_shown bytes (Some Unnamed) k found = under_shown Unnamed bytes k found
-  by_shown bytes (Some (Of q)) k found = differs (not (q.version == d.version && q.steps == n)) found
+  by_shown bytes (Some (Of q)) k found = differs (not (is_asked_of q d n)) found
     where
       large : (b : Bool) → (if b then No 1 BaseTooLarge else judged_under (Of q) d n bytes) ≡ Yes k → AllShow bytes
       large true found = absurd (cc)

@@ -6,7 +6,7 @@ use Rattle.rail_base.specs.declared.plan.Command.{Command}
 use Rattle.rail_laws.proofs.Stations.{follow, parallel, plan_two, train_with, node}
 use Rattle.rail_alike.specs.Renaming.{first_step}
 use Rattle.rail_alike.specs.Alike.{exchanged}
-use Rattle.rail_alike.specs.Tests.{are_alike, neighbors}
+use Rattle.rail_alike.specs.Tests.{are_alike, neighbors, neighbors_beside}
 
 abbrev number : ℕ → TrainNo
 number n = record { 0 = n }
@@ -61,3 +61,33 @@ stand_alike = refl
 
 stand_otherwise : are_alike (standing 1001) (number 1) (number 2) ≡ false
 stand_otherwise = refl
+
+-- three alike, but for withins of two of them
+abbrev three : ℕ → Station
+three ms = record follow {
+  trains = train_with "A" ((node 1 ∷ []) ∷ (node 3 ∷ []) ∷ []) (0 ∷ 0 ∷ [])
+      ∷ train_with "B" ((node 1 ∷ []) ∷ (node 3 ∷ []) ∷ []) (0 ∷ 0 ∷ [])
+      ∷ train_with "C" ((node 1 ∷ []) ∷ (node 3 ∷ []) ∷ []) (0 ∷ 0 ∷ []) ∷ [];
+  withins = record { from_train = number 2; from_visit = 1; to_train = number 2; to_visit = 2; max_ms = ms }
+      ∷ record { from_train = number 3; from_visit = 1; to_train = number 3; to_visit = 2; max_ms = 9000 } ∷ [];
+}
+
+all_neighbors_of_three : neighbors (three 9000) ≡ (number 2, number 3) ∷ []
+all_neighbors_of_three = refl
+
+beside_the_first : neighbors_beside (three 9000) 1 ≡ []
+beside_the_first = refl
+
+-- two that no within names are neighbors past one that is named
+abbrev one_within : ℕ → Station
+one_within ms = record (three ms) { withins = record { from_train = number 2; from_visit = 1; to_train = number 2; to_visit = 2; max_ms = ms } ∷ [] }
+
+beside_one : neighbors_beside (one_within 8000) 1 ≡ (number 1, number 3) ∷ []
+beside_one = refl
+
+beside_another_time : neighbors_beside (one_within 7000) 1 ≡ (number 1, number 3) ∷ []
+beside_another_time = refl
+
+-- an entry that there isn't names none
+beside_none : neighbors_beside (one_within 8000) 2 ≡ neighbors (one_within 8000)
+beside_none = refl

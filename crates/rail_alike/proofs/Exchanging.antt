@@ -79,7 +79,7 @@ apart t u e = record {
 }
 
 module _ (t u : TrainNo) where
-  untouched : (x : TrainNo) → is_train x t ≡ false → is_train x u ≡ false → exchange t u x ≡ x
+  pub untouched : (x : TrainNo) → is_train x t ≡ false → is_train x u ≡ false → exchange t u x ≡ x
   untouched x p q = ap₂ (λ (a b : Bool). cond a u (cond b t x)) p q
 
   -- it doesn't matter which is said first

@@ -3,7 +3,7 @@ pub mod Exchanging
 pub mod Feasibility
 pub mod Turns
 pub mod Testing
-pub mod Rows
 pub mod Next
+pub mod Beside
 pub mod Beginnings
 pub mod AlikeRows

@@ -1,5 +1,5 @@
 -- The test of trains that are alike, and those of them that are next to each other.
-use Rattle.std.specs.Prelude.{ℕ, Bool, ◌&&◌, ◌==◌, nat_le, nat_lt, List, [], ◌∷◌, flat_map, length}
+use Rattle.std.specs.Prelude.{ℕ, Bool, not, ◌&&◌, ◌||◌, ◌==◌, nat_le, nat_lt, List, [], ◌∷◌, filter, flat_map, length}
 use Rattle.std.specs.Prelude.{Option, None, Some, find}
 use Rattle.std.specs.List.{list_any, list_all, zip}
 use Rattle.rail_base.specs.declared.station.Station.{Station}
@@ -7,7 +7,7 @@ use Rattle.rail_base.specs.declared.station.Order.{Order}
 use Rattle.rail_base.specs.declared.station.Within.{Within}
 use Rattle.rail_base.specs.declared.station.NodeNo.{NodeNo}
 use Rattle.rail_base.specs.declared.station.TrainNo.{TrainNo}
-use Rattle.rail_base.specs.Stations.{train_of, trains}
+use Rattle.rail_base.specs.Stations.{train_of, trains, within_of}
 use Rattle.rail_spec.specs.Plans.{is_train}
 use Rattle.rail_alike.specs.Renaming.{renamed_order, renamed_within}
 use Rattle.rail_alike.specs.Alike.{exchange}
@@ -68,15 +68,31 @@ module _ (d : Station) (t u : TrainNo) where
 abbrev pub is_later_alike : Station → TrainNo → TrainNo → Bool
 is_later_alike d t u = nat_lt t.0 u.0 && are_alike d t u
 
--- the first train after this one that is like it
-abbrev pub next_alike : Station → TrainNo → Option TrainNo
-next_alike d t = find (is_later_alike d t) (trains d)
+-- the first of these trains that comes after this one and is like it
+abbrev pub next_among : Station → List TrainNo → TrainNo → Option TrainNo
+next_among d ts t = find (is_later_alike d t) ts
 
 -- a train with the next one, where there is one
 abbrev pub pair_with : TrainNo → Option TrainNo → List (TrainNo × TrainNo)
 pair_with t None = []
 pair_with t (Some u) = (t, u) ∷ []
 
+-- each of these trains with the next of them that is like it
+abbrev pub neighbors_among : Station → List TrainNo → List (TrainNo × TrainNo)
+neighbors_among d ts = flat_map (λ t. pair_with t (next_among d ts t)) ts
+
 -- each train with the next one that is like it
 abbrev pub neighbors : Station → List (TrainNo × TrainNo)
-neighbors d = flat_map (λ t. pair_with t (next_alike d t)) (trains d)
+neighbors d = neighbors_among d (trains d)
+
+-- the within of this number names the train
+abbrev pub is_named_by : Station → ℕ → TrainNo → Bool
+is_named_by d w t = is_train (within_of d w).from_train t || is_train (within_of d w).to_train t
+
+-- the trains that it doesn't name
+abbrev pub trains_beside : Station → ℕ → List TrainNo
+trains_beside d w = filter (λ t. not (is_named_by d w t)) (trains d)
+
+-- each of them with the next of them that is like it
+abbrev pub neighbors_beside : Station → ℕ → List (TrainNo × TrainNo)
+neighbors_beside d w = neighbors_among d (trains_beside d w)

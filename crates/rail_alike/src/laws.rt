@@ -1,6 +1,6 @@
 //! Laws of trains that are alike, each the contract of a function that does nothing.
 
-ghost use Rattle.std.specs.Prelude.{◌↔◌, ℕ, List};
+ghost use Rattle.std.specs.Prelude.{◌≡◌, ◌≤◌, ◌↔◌, ℕ, List, length};
 ghost use Rattle.rail_base.specs.declared.station.Station.{Station};
 ghost use Rattle.rail_base.specs.declared.station.TrainNo.{TrainNo};
 ghost use Rattle.rail_base.specs.declared.plan.Command.{Command};
@@ -8,8 +8,8 @@ ghost use Rattle.rail_base.specs.Members.{In};
 ghost use Rattle.rail_base.specs.Stations.{IsTrain};
 ghost use Rattle.rail_spec.specs.Feasible.{IsFeasible, IsInfeasible};
 ghost use Rattle.rail_alike.specs.Renaming.{Renames, RunsAreRenamed, StaysFeasible};
-ghost use Rattle.rail_alike.specs.Alike.{AreAlike, AreNeighbors, exchange};
-ghost use Rattle.rail_alike.specs.Tests.{neighbors};
+ghost use Rattle.rail_alike.specs.Alike.{AreAlike, AreNeighbors, AreNeighborsBeside, exchange, with_max_ms};
+ghost use Rattle.rail_alike.specs.Tests.{neighbors, neighbors_beside};
 ghost use Rattle.rail_alike.specs.Turns.{AllInTurn, AreNamed, ArePairs, ComeInTurn, HasAllInTurn, InTurn, NoneInTurn};
 ghost use Rattle.rail_alike.specs.Turns.{EachPairing, EarlierHasBegun};
 ghost use Rattle.rail_laws.specs.Plans.{EachWellFormed};
@@ -49,6 +49,16 @@ pub fn neighbors_are_enough()
     ensures exactly { (d : Station) (t u : TrainNo) → In (t, u) (neighbors d) ↔ AreNeighbors d t u }
     ensures pairs { (d : Station) → ArePairs d (neighbors d) }
     ensures all { (d : Station) (plan : List (List Command)) → InTurn (neighbors d) plan → AllInTurn d plan }
+{}
+
+/// The neighbors beside a within are exactly the trains that are alike and that it doesn't name, with none between that
+/// is like them and that it doesn't name. They are the same whatever its greatest time is.
+pub fn neighbors_beside_a_within()
+    ensures exactly { (d : Station) (w : ℕ) (t u : TrainNo) → In (t, u) (neighbors_beside d w)
+        ↔ AreNeighborsBeside d w t u }
+    ensures pairs { (d : Station) (w : ℕ) → ArePairs d (neighbors_beside d w) }
+    ensures same { (d : Station) (w ms : ℕ) → 1 ≤ w → w ≤ length d.withins
+        → neighbors_beside (with_max_ms d w ms) w ≡ neighbors_beside d w }
 {}
 
 /// Where there is a feasible plan, there is one in which all trains that are alike come in turn, in file order.

@@ -7,4 +7,4 @@ mod likeness;
 mod pairs;
 
 pub use likeness::are_alike;
-pub use pairs::neighbors;
+pub use pairs::{neighbors, neighbors_beside};

@@ -1,7 +1,9 @@
 //! Trains that are alike and next to each other.
 
 ghost use Rattle.std.specs.Prelude.{◌≡◌, ◌++◌, IfOk, OnOk};
-ghost use Rattle.rail_alike.specs.Tests.{is_later_alike, neighbors, next_alike, pair_with};
+ghost use Rattle.rail_base.specs.Stations.{trains, within_of};
+ghost use Rattle.rail_alike.specs.Tests.{is_later_alike, is_named_by, neighbors, neighbors_among, neighbors_beside};
+ghost use Rattle.rail_alike.specs.Tests.{next_among, pair_with, trains_beside};
 
 use crate::likeness::are_alike;
 use rail_base::design::Design;
@@ -14,10 +16,75 @@ use std::alloc::{AllocError, Global};
 pub fn neighbors(alloc: Global, design: &Design) -> Result<List<(TrainNo, TrainNo)>, AllocError>
     ensures { IfOk result (λ pairs. pairs ≡ neighbors design.now.station) }
 {
-    let mut pairs = List::new(alloc);
+    let trains = all_trains(alloc, design)?;
+    neighbors_among(alloc, design, &trains)
+}
+
+/// Each train that the within of this number doesn't name with the next one that it doesn't name and that is like it.
+/// `Err` where memory is wanting.
+pub fn neighbors_beside(
+    alloc: Global,
+    design: &Design,
+    within: u64,
+) -> Result<List<(TrainNo, TrainNo)>, AllocError>
+    ensures { IfOk result (λ pairs. pairs ≡ neighbors_beside design.now.station within) }
+{
+    let trains = trains_beside(alloc, design, within)?;
+    neighbors_among(alloc, design, &trains)
+}
+
+/// The numbers of all trains.
+fn all_trains(alloc: Global, design: &Design) -> Result<Vec<TrainNo>, AllocError>
+    ensures { IfOk result (λ found. found.items ≡ trains design.now.station) }
+{
+    let mut found = Vec::new(alloc);
     for number in 1..design.station.trains.len() as u32 + 1 {
-        let train = TrainNo(number);
-        add_pair(&mut pairs, train, next_alike(design, train))?;
+        found.push(TrainNo(number))?;
+    }
+    Ok(found)
+}
+
+/// Those of the trains that the within of this number doesn't name.
+fn trains_beside(alloc: Global, design: &Design, within: u64) -> Result<Vec<TrainNo>, AllocError>
+    ensures { IfOk result (λ found. found.items ≡ trains_beside design.now.station within) }
+{
+    let mut found = all_trains(alloc, design)?;
+    found.retain(|train| !is_named_by(design, within, *train));
+    Ok(found)
+}
+
+/// Whether the within of this number names the train.
+fn is_named_by(design: &Design, within: u64, train: TrainNo) -> bool
+    ensures { result ≡ is_named_by design.now.station within train }
+{
+    let (from, to) = named_by(design, within);
+    from.0 == train.0 || to.0 == train.0
+}
+
+/// The two trains that the within of this number names, or two that are none.
+fn named_by(design: &Design, within: u64) -> (TrainNo, TrainNo)
+    ensures { result ≡ ((within_of design.now.station within).from_train, (within_of design.now.station within).to_train) }
+{
+    if within == 0 {
+        return (TrainNo(0), TrainNo(0));
+    }
+    match design.station.withins.as_slice().get(within as usize - 1) {
+        Some(within) => (within.from_train, within.to_train),
+        None => (TrainNo(0), TrainNo(0)),
+    }
+}
+
+/// Each of these trains with the next of them that is like it.
+fn neighbors_among(
+    alloc: Global,
+    design: &Design,
+    trains: &[TrainNo],
+) -> Result<List<(TrainNo, TrainNo)>, AllocError>
+    ensures { IfOk result (λ pairs. pairs ≡ neighbors_among design.now.station trains.now) }
+{
+    let mut pairs = List::new(alloc);
+    for train in trains {
+        add_pair(&mut pairs, *train, next_among(design, trains, *train))?;
     }
     Ok(pairs)
 }
@@ -29,17 +96,14 @@ fn is_later_alike(design: &Design, train: TrainNo, other: TrainNo) -> bool
     train.0 < other.0 && are_alike(design, train, other)
 }
 
-/// The first train after this one that is like it.
-fn next_alike(design: &Design, train: TrainNo) -> Option<TrainNo>
-    ensures { result ≡ next_alike design.now.station train }
+/// The first of these trains that comes after this one and is like it.
+fn next_among(design: &Design, trains: &[TrainNo], train: TrainNo) -> Option<TrainNo>
+    ensures { result ≡ next_among design.now.station trains.now train }
 {
-    for number in 1..design.station.trains.len() as u32 + 1 {
-        let other = TrainNo(number);
-        if is_later_alike(design, train, other) {
-            return Some(other);
-        }
-    }
-    None
+    trains
+        .iter()
+        .copied()
+        .find(|other| is_later_alike(design, train, *other))
 }
 
 /// Adds a train with the next one, where there is one.

@@ -7,6 +7,7 @@ use Rattle.clause_spec.specs.Clauses.{past_limit}
 use Rattle.verify_loop.specs.declared.outcome.Aim.{Aim}
 use Rattle.rail_words.specs.declared.request.SearchMode.{SearchMode}
 use Rattle.rail_words.specs.declared.request.SearchMode.TheVariants as by
+use Rattle.proof_judge.specs.Judged.{names_within}
 use Rattle.proof_judge.proofs.Sound.{yes_infeasible}
 use Rattle.infra_reader.proofs.Reading.{spelled_admitted}
 use Rattle.rail_base.specs.Admission.{is_admitted}
@@ -388,3 +389,10 @@ module _ (files : Files) (words : List (List ℕ)) (n : ℕ) (d : Station) (s : 
         stored = log;
         passes = log_passes q log.log log.proves;
       }
+
+-- what is looked for names no within
+pub aim_named : (mode : SearchMode) (d : Station) → names_within (aim_of mode).base d ≡ true
+aim_named by.Plain d = refl
+aim_named by.Bounds d = refl
+aim_named by.Any d = refl
+aim_named by.Normal d = refl

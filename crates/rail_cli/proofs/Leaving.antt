@@ -23,6 +23,7 @@ use Rattle.rail_cli.specs.Answers.{reply_for_outcome}
 use Rattle.cli_shell.specs.Replies.{reply_seen, RefusesFile, OnEnd}
 use Rattle.rail_cli.specs.Replies.{StoresFile, KeepsLog}
 use Rattle.rail_cli.specs.Searches.{ShowsNone, HoldsProof, SearchLeaves, Leaves}
+use Rattle.proof_judge.specs.Judged.{names_within}
 use Rattle.rail_cli.proofs.Logs.{few_for_log}
 
 -- ---- a search
@@ -87,10 +88,10 @@ module _ (files : Files) (n : ℕ) (design proof : List ℕ) (known_files : Opti
       go ending.ShelfFault refuses = inr same
 
   -- what a search in the design in the file leaves
-  module _ (m : Aim) (d : Station) (good : IsAdmitted d) (most : n ≤ 256) (parsed : design_in (files design) ≡ Ok d) (b : Budgets) (room : b.log_bytes ≡ limit_of file.Proof) where
+  module _ (m : Aim) (d : Station) (good : IsAdmitted d) (most : n ≤ 256) (named : names_within m.base d ≡ true) (parsed : design_in (files design) ≡ Ok d) (b : Budgets) (room : b.log_bytes ≡ limit_of file.Proof) where
     -- the log of a search shows that there is no plan
     log_shows : (log : Vec ℕ Global) → IsOutcome m d n b (outcome.Infeasible log) → ShowsNone d n log.items
-    log_shows log says = record { within_limit = rw (← room) says.2; few = few_for_log m d n b log.items good most says.1; shows = says.1.accepted }
+    log_shows log says = record { within_limit = rw (← room) says.2; few = few_for_log m d n b log.items good most named says.1; shows = says.1.accepted }
 
     -- it was not stored
     unstored_leaves : (e : Ending) (log : List ℕ) → ShowsNone d n log → StoresFile {X = Unit {0}} (Err e) files proof log known_files → OnEnd (Err e) left

@@ -1,5 +1,5 @@
 -- A log that shows that there is no plan is a file for which the clauses of the design are few.
-use Rattle.std.proofs.Common.{◌≡◌, ◌≤◌, ℕ, Bool, true, false, not, ◌&&◌, ◌==◌, is_some, if◌then◌else◌, List, [], ◌∷◌, ◌++◌, Option, None, Some, Ok, refl, ap, sym, ◌∙◌}
+use Rattle.std.proofs.Common.{◌≡◌, ◌≤◌, ℕ, Bool, true, false, not, is_some, if◌then◌else◌, List, [], ◌∷◌, ◌++◌, Option, None, Some, Ok, refl, ap, sym, ◌∙◌}
 use Rattle.rail_text.specs.Pieces.{pieces}
 use Rattle.rail_text.proofs.Numerals.{number_of-decimal}
 use Rattle.clause_spec.specs.Clauses.{past_limit}
@@ -9,7 +9,7 @@ use Rattle.log_checker.specs.declared.check_result.Reason.TheVariants.{HeadDiffe
 use Rattle.log_checker.specs.Verdict.{head_in}
 use Rattle.log_recorder.specs.Logs.{Learnt}
 use Rattle.log_recorder.proofs.Accepted.{headed}
-use Rattle.proof_judge.specs.Judged.{base_named, judged_by, judged_under, past_plain}
+use Rattle.proof_judge.specs.Judged.{is_asked_of, names_within, base_named, judged_by, judged_under, past_plain}
 use Rattle.rail_base.specs.declared.station.Station.{Station}
 use Rattle.rail_base.specs.Admitted.{IsAdmitted}
 use Rattle.verify_loop.specs.declared.outcome.Aim.{Aim}
@@ -30,10 +30,10 @@ passed_few : (d : Station) (past : Option ℕ) → unless_too_large d past ≡ O
 passed_few d None e = refl
 passed_few d (Some k) e = absurd (cc)
 
-pub few_for_log : (m : Aim) (d : Station) (n : ℕ) (b : Budgets) (log : List ℕ) → IsAdmitted d → n ≤ 256 → IsProof m d n b log → HasFewFor d n log
-few_for_log m d n b log good most proof =
+pub few_for_log : (m : Aim) (d : Station) (n : ℕ) (b : Budgets) (log : List ℕ) → IsAdmitted d → n ≤ 256 → names_within m.base d ≡ true → IsProof m d n b log → HasFewFor d n log
+few_for_log m d n b log good most named proof =
     let lines = proof.lines ++ Learnt proof.ended_log.last ∷ [] in
-    let named : head_in (pieces log) ≡ Some (head m d n) = ap (λ text. head_in (pieces text)) proof.ended_log.text ∙ headed number_of-decimal (head m d n) (kept_so m d n good most) lines in
-    let shown : judged_by d n log (Some (head m d n)) ≡ Yes n = ap (judged_by d n log) (sym named) ∙ proof.accepted in
-    let few : past_limit 16000000 0 (first_clauses m d n) ≡ None = shown_few (d.version == d.version && n == n) (past_limit 16000000 0 (first_clauses m d n)) (judged_under (head m d n) d n log) n shown in
-    passed_few d (past_plain d n log) (base_passes m.base n d log (ap base_named named) (small_passes m.base n d few))
+    let head_is : head_in (pieces log) ≡ Some (head m d n) = ap (λ text. head_in (pieces text)) proof.ended_log.text ∙ headed number_of-decimal (head m d n) (kept_so m d n good most named) lines in
+    let shown : judged_by d n log (Some (head m d n)) ≡ Yes n = ap (judged_by d n log) (sym head_is) ∙ proof.accepted in
+    let few : past_limit 16000000 0 (first_clauses m d n) ≡ None = shown_few (is_asked_of (record { version = d.version; steps = n; base = m.base }) d n) (past_limit 16000000 0 (first_clauses m d n)) (judged_under (head m d n) d n log) n shown in
+    passed_few d (past_plain d n log) (base_passes m.base n d log (ap base_named head_is) (small_passes m.base n d few))

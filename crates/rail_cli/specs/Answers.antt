@@ -2,6 +2,7 @@
 use Rattle.std.specs.Prelude.{ℕ, ◌*◌, List, [], ◌∷◌, length}
 use Rattle.std.specs.Prelude.{Option, None, Some}
 use Rattle.clause_spec.specs.declared.question.BaseKind.TheVariants.{Plain, Normal, Live}
+use Rattle.clause_spec.specs.declared.question.Turns.TheVariants.{All}
 use Rattle.rail_base.specs.declared.station.Station.{Station}
 use Rattle.rail_base.specs.declared.plan.Command.{Command}
 use Rattle.rail_outside.specs.Files.{Files}
@@ -58,8 +59,8 @@ searched_in m d n conflicts ticks found =
 -- what is looked for, and by which clauses: with bounds by those of live commands
 abbrev pub aim_of : SearchMode → Aim
 aim_of by.Plain = record { base = Plain; wanted = Fewest }
-aim_of by.Bounds = record { base = Live; wanted = Fewest }
-aim_of by.Any = record { base = Live; wanted = Any }
+aim_of by.Bounds = record { base = Live All; wanted = Fewest }
+aim_of by.Any = record { base = Live All; wanted = Any }
 aim_of by.Normal = record { base = Normal; wanted = Fewest }
 
 -- the answer to a search, for the bytes of the design, by what it ended with

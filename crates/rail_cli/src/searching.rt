@@ -1,6 +1,7 @@
 //! A search for a plan of a design.
 
-ghost use Rattle.std.specs.Prelude.{◌≡◌, ◌≢◌, ◌≤◌, [], ◌∷◌, length, ℕ, List, IfOk, Ok, Some};
+ghost use Rattle.std.specs.Prelude.{◌≡◌, ◌≢◌, ◌≤◌, [], ◌∷◌, length, ℕ, List, IfOk, Ok, Some, true};
+ghost use Rattle.proof_judge.specs.Judged.{names_within};
 ghost use Rattle.rail_outside.specs.Asks.{fetched, stored};
 ghost use Rattle.rail_outside.specs.Files.{Files};
 ghost use Rattle.rail_outside.specs.Growth.{Rose, GrowsByPrefix};
@@ -24,7 +25,7 @@ ghost use Rattle.rail_cli.specs.Texts.{log_spent_line};
 use crate::texts::{
     conflicts_spent_line, infeasible_line, log_spent_line, plan_steps_line, ticks_spent_line,
 };
-use clause_spec::BaseKind;
+use clause_spec::{BaseKind, Turns};
 use cli_shell::{Ending, InputFile, Reply, Status, admit, fetch, one_line, plan_line, too_large};
 use interlocking::{Interlocking, Steps};
 use rail_base::design::Design;
@@ -103,11 +104,11 @@ pub(crate) fn aim_of(mode: SearchMode) -> Aim
             wanted: Wanted::Fewest,
         },
         SearchMode::Bounds => Aim {
-            base: BaseKind::Live,
+            base: BaseKind::Live(Turns::All),
             wanted: Wanted::Fewest,
         },
         SearchMode::Any => Aim {
-            base: BaseKind::Live,
+            base: BaseKind::Live(Turns::All),
             wanted: Wanted::Any,
         },
         SearchMode::Normal => Aim {
@@ -248,7 +249,8 @@ fn settle<S: Shelf>(
     proof: &str,
     found: &Outcome,
 ) -> Result<Reply, Ending>
-    requires says { (m : Aim) × IsOutcome m design.now.station steps.count budgets found.now }
+    requires says { (m : Aim) × IsOutcome m design.now.station steps.count budgets found.now
+        × (names_within m.base design.now.station ≡ true) }
     requires room { budgets.log_bytes ≡ limit_of InputFile.Proof }
     ensures replies { Replies result
         (reply_for_outcome design.now.station steps.count budgets.conflicts budgets.ticks found.now) }
@@ -278,6 +280,7 @@ fn searched_in<S: Shelf, P: Sink>(
     progress: &mut P,
 ) -> Result<Reply, Ending>
     requires room { budgets.log_bytes ≡ limit_of InputFile.Proof }
+    requires named { names_within aim.base interlocking.now.design.station ≡ true }
     ensures replies { (found : Outcome) × IsOutcome aim interlocking.now.design.station steps.count budgets found
         × Fits aim interlocking.now.design.station steps.count found
         × Replies result

@@ -6,7 +6,7 @@ ghost use Rattle.rail_base.specs.declared.station.Order.{Order};
 ghost use Rattle.rail_base.specs.declared.station.Within.{Within};
 
 use crate::stations::{edge, name, node, one, train, two, vehicle};
-use rail_alike::{are_alike, neighbors};
+use rail_alike::{are_alike, neighbors, neighbors_beside};
 use rail_base::design::Design;
 use rail_base::list::List;
 use rail_base::station::{Order, Station, Train, TrainNo, Within};
@@ -178,6 +178,18 @@ fn each_with_the_next(rt: HostRuntime) -> Result<(), AllocError> {
     assert_eq!(rt; pairs.len(), wanted.len());
     for (pair, (one, next)) in pairs.as_slice().iter().zip(wanted.iter()) {
         assert_eq!(rt; (pair.0.0, pair.1.0), (*one, *next));
+    }
+    Ok(())
+}
+
+/// Withins 1 and 2 name trains F and G, and there is none of number 0 or 5.
+#[test]
+fn each_with_the_next_beside_a_within(rt: HostRuntime) -> Result<(), AllocError> {
+    let alloc = rt.alloc();
+    let design = design(alloc)?;
+    for (within, many) in [(0, 4), (1, 3), (2, 3), (3, 4), (5, 4)] {
+        let pairs = neighbors_beside(alloc, &design, within)?;
+        assert_eq!(rt; pairs.len(), many, "{within}");
     }
     Ok(())
 }

@@ -1,7 +1,7 @@
 //! Lines and heads, read and written, and bytes that are none.
 
 use bound_spec::{Evidence, Requirement};
-use clause_spec::{BaseKind, Question};
+use clause_spec::{BaseKind, Question, Turns};
 use proof_log::{Head, Line, LineFault, read_head, read_line, write_head, write_line};
 use rail_base::plan::Command;
 use rail_base::route::RouteNo;
@@ -114,7 +114,7 @@ fn other_lines_are_refused(rt: HostRuntime) {
 
 #[test]
 fn heads_are_read_and_written(rt: HostRuntime) -> Result<(), AllocError> {
-    let rows: [(&[u8], Head); 8] = [
+    let rows: [(&[u8], Head); 9] = [
         (b"rcvlog 1", Head::Unnamed),
         (
             b"rcvlog 2 1 12",
@@ -153,7 +153,7 @@ fn heads_are_read_and_written(rt: HostRuntime) -> Result<(), AllocError> {
             Head::Of(Question {
                 version: 1,
                 steps: 12,
-                base: BaseKind::Live,
+                base: BaseKind::Live(Turns::All),
             }),
         ),
         (
@@ -161,7 +161,15 @@ fn heads_are_read_and_written(rt: HostRuntime) -> Result<(), AllocError> {
             Head::Of(Question {
                 version: 999_999_999_999_999_999,
                 steps: 0,
-                base: BaseKind::Live,
+                base: BaseKind::Live(Turns::All),
+            }),
+        ),
+        (
+            b"rcvlog 6 3 12 2",
+            Head::Of(Question {
+                version: 3,
+                steps: 12,
+                base: BaseKind::Live(Turns::Beside { within: 2 }),
             }),
         ),
         (
@@ -182,7 +190,7 @@ fn heads_are_read_and_written(rt: HostRuntime) -> Result<(), AllocError> {
 
 #[test]
 fn other_heads_are_refused(rt: HostRuntime) {
-    let rows: [&[u8]; 17] = [
+    let rows: [&[u8]; 20] = [
         b"",
         b"rcvlog",
         b"rcvlog 1 ",
@@ -193,6 +201,9 @@ fn other_heads_are_refused(rt: HostRuntime) {
         b"rcvlog 2 1 2 3",
         b"rcvlog 2 1000000000000000000 1",
         b"rcvlog 6 1 2",
+        b"rcvlog 6 1 2 03",
+        b"rcvlog 6 1 2 3 4",
+        b"rcvlog 5 1 2 3",
         b"rcvlog 4",
         b"rcvlog 4 1",
         b"rcvlog 4 1 1000000000000000000",

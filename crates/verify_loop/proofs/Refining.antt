@@ -6,7 +6,7 @@ use Rattle.proof_log.specs.Heads.{keeps_head}
 use Rattle.std.proofs.lemmas.Bool.Decides.{nat_tests}
 use Rattle.log_checker.specs.declared.check_result.CheckResult.TheVariants.{Yes}
 use Rattle.log_checker.specs.Verdict.{steps_denied}
-use Rattle.proof_judge.specs.Judged.{judged, judged_by, refuted, YesIsInfeasible}
+use Rattle.proof_judge.specs.Judged.{judged, judged_by, refuted, YesIsInfeasible, names_within}
 use Rattle.log_recorder.proofs.Accepted.{headed}
 use Rattle.rail_text.proofs.Numerals.{number_of-decimal}
 use Rattle.verify_loop.proofs.Heading.{judged_so}
@@ -175,28 +175,28 @@ module _ (m : Aim) (d : Station) (n : ℕ) (b : Budgets) (some : 1 ≤ n) (store
       last : IsLast (vars m d n) (with_log (base m d n) before) (core, hints)
       last = final-last (vars m d n) s.below_2_32 some (with_log (base m d n) before) steps (core, hints) (few now more went fewer) s.at_least_one s.at_most_n wide which final_there
 
-      shown_so : keeps_head (head m d n) ≡ true → past_limit 16000000 0 (first_clauses m d n) ≡ None → EndedRunsAreAccepted → judged d n new.text ≡ Yes n
-      shown_so kept fits accepted =
+      shown_so : keeps_head (head m d n) ≡ true → names_within m.base d ≡ true → past_limit 16000000 0 (first_clauses m d n) ≡ None → EndedRunsAreAccepted → judged d n new.text ≡ Yes n
+      shown_so kept named fits accepted =
           let all = before ++ Learnt (core, hints) ∷ [] in
           ap (judged d n) whole ∙ (ap (judged_by d n (log_text (head m d n) all)) (headed number_of-decimal (head m d n) kept all)
-          ∙ (judged_so m d n (log_text (head m d n) all) fits
+          ∙ (judged_so m d n (log_text (head m d n) all) named fits
           ∙ accepted (head m d n) (refuted m.base d n) (vars m d n) (base m d n) before (core, hints) kept (go_on now more went fewer) last))
 
-      pub proof_so : keeps_head (head m d n) ≡ true → past_limit 16000000 0 (first_clauses m d n) ≡ None → derive_count more < b.conflicts - derives → EndedRunsAreAccepted → IsProof m d n b new.text
-      proof_so kept fits less accepted = record {
+      pub proof_so : keeps_head (head m d n) ≡ true → names_within m.base d ≡ true → past_limit 16000000 0 (first_clauses m d n) ≡ None → derive_count more < b.conflicts - derives → EndedRunsAreAccepted → IsProof m d n b new.text
+      proof_so kept named fits less accepted = record {
         lines = before;
         rs = s.rs;
         ended_log = record { last = (core, hints); text = whole; go_on = go_on now more went fewer; is_last = last };
         of_failed_plans = (log_so now more went fewer).of_failed_plans;
-        accepted = shown_so kept fits accepted;
+        accepted = shown_so kept named fits accepted;
         within = record {
           derived = (let c = one-more before (core, hints) in let k = count-lines s.lines more in let so = s.derived in let spent = s.learnt in omega arith);
           timed = (let so = s.cost in let left = s.left in omega arith);
         };
       }
 
-      pub infeasible_so : keeps_head (head m d n) ≡ true → past_limit 16000000 0 (first_clauses m d n) ≡ None → IsAdmitted d → EndedRunsAreAccepted → YesIsInfeasible → IsInfeasible d n
-      infeasible_so kept fits good accepted sound = (sound d good n n new.text some (shown_so kept fits accepted)).1.1
+      pub infeasible_so : keeps_head (head m d n) ≡ true → names_within m.base d ≡ true → past_limit 16000000 0 (first_clauses m d n) ≡ None → IsAdmitted d → EndedRunsAreAccepted → YesIsInfeasible → IsInfeasible d n
+      infeasible_so kept named fits good accepted sound = (sound d good n n new.text some (shown_so kept named fits accepted)).1.1
 
     -- of these, of which the search goes on with one more
     module _ (not_empty : core ≡ [] → ⊥) (less : steps < n) (unsaid : HasUnit store (opposite (by_step (vars m d n) steps)) → ⊥) where

@@ -7,6 +7,7 @@ use Rattle.order_bounds.specs.Orders.{makes_both, said_by, said_of}
 use Rattle.proof_judge.specs.declared.evidence.EvidenceLine.{EvidenceLine}
 use Rattle.proof_judge.specs.Written.{IsEvidenceLine}
 use Rattle.clause_spec.specs.declared.question.BaseKind.TheVariants.{Live}
+use Rattle.clause_spec.specs.declared.question.Turns.{Turns}
 use Rattle.live_clause_spec.specs.Live.{is_live}
 use Rattle.live_clause_spec.specs.Variables.{live_pairs}
 use Rattle.rail_base.specs.Numbering.{one_to}
@@ -91,6 +92,10 @@ module _ (q : PlanSearch) where
   ShowsSome l =
       (e : Evidence) × IsEvidenceLine q.aim.base station_of most_steps e l.line.items l.clause.items
 
+  -- live commands alone are searched
+  abbrev pub SearchesLive : Type 0
+  SearchesLive = (turns : Turns) × (q.aim.base ≡ Live turns)
+
   -- pairs of live commands that contend, of which the order may say something
   abbrev pub IsPairList : ℕ → List (Command × Command) → Type 0
   IsPairList order pairs = let routes = routes_of station_of in
@@ -98,11 +103,11 @@ module _ (q : PlanSearch) where
 
   -- what the orders before this one say
   abbrev pub said_before : ℕ → List Evidence
-  said_before order = flat_map (said_by Live station_of most_steps) (one_to (order - 1))
+  said_before order = flat_map (said_by q.aim.base station_of most_steps) (one_to (order - 1))
 
   -- and this one of some pairs
   abbrev pub said_to : ℕ → List (Command × Command) → List Evidence
-  said_to order pairs = said_before order ++ said_of Live station_of most_steps order pairs
+  said_to order pairs = said_before order ++ said_of q.aim.base station_of most_steps order pairs
 
   -- it begins, and its log has these cones and bounds and no other lines
   abbrev pub IsBeginning : SearchState → List Evidence → Type 0

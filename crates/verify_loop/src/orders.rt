@@ -1,7 +1,6 @@
 //! What orders say before the first plan.
 
 ghost use Rattle.std.specs.Prelude.{◌≡◌, ◌≤◌, ◌<◌, ◌+◌, [], IfOk, IfErr, length, take};
-ghost use Rattle.clause_spec.specs.declared.question.BaseKind.TheVariants.{Live};
 ghost use Rattle.verify_loop.specs.Outcomes.{known_first};
 
 use crate::outcome::Outcome;
@@ -11,7 +10,8 @@ use order_bounds::{line_of_order, pairs_of_order};
 use rail_base::plan::Command;
 
 impl PlanSearch<'_> {
-    ghost use Rattle.verify_loop.specs.Asking.{EndsWith, IsBeginning, IsPairList, IsSearch, said_before, said_to, station_of};
+    ghost use Rattle.verify_loop.specs.Asking.{EndsWith, IsBeginning, IsPairList, IsSearch, SearchesLive};
+    ghost use Rattle.verify_loop.specs.Asking.{said_before, said_to, station_of};
 
     /// A search that has the first clauses alone, with what orders say, where live commands are searched.
     pub(crate) fn with_orders(&self, search: SearchState) -> Result<SearchState, Outcome>
@@ -20,14 +20,14 @@ impl PlanSearch<'_> {
         ensures ends { IfErr result (EndsWith self.now) }
     {
         match self.aim.base {
-            BaseKind::Live => self.with_all_orders(search),
+            BaseKind::Live(_) => self.with_all_orders(search),
             BaseKind::Plain | BaseKind::Sorted | BaseKind::Normal => Ok(search),
         }
     }
 
     /// The same over live commands: order after order.
     fn with_all_orders(&self, search: SearchState) -> Result<SearchState, Outcome>
-        requires live { self.now.aim.base ≡ Live }
+        requires live { SearchesLive self.now }
         requires begun { IsBeginning self.now search [] }
         ensures begun { IfOk result (λ s. IsBeginning self.now s (known_first self.now.aim (station_of self.now)
             self.now.numbering.now.steps)) }
@@ -42,7 +42,7 @@ impl PlanSearch<'_> {
 
     /// The same with what one more order says.
     fn with_order(&self, search: SearchState, order: u32) -> Result<SearchState, Outcome>
-        requires live { self.now.aim.base ≡ Live }
+        requires live { SearchesLive self.now }
         requires at_least_one { 1 ≤ order }
         requires within { order ≤ length (station_of self.now).orders }
         requires begun { IsBeginning self.now search (said_before self.now order) }
@@ -68,7 +68,7 @@ impl PlanSearch<'_> {
         pairs: &[(Command, Command)],
         place: usize,
     ) -> Result<SearchState, Outcome>
-        requires live { self.now.aim.base ≡ Live }
+        requires live { SearchesLive self.now }
         requires at_least_one { 1 ≤ order }
         requires within { order ≤ length (station_of self.now).orders }
         requires pairs { IsPairList self.now order pairs.now }

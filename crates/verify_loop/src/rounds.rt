@@ -1,10 +1,11 @@
 //! A search, round after round.
 
-ghost use Rattle.std.specs.Prelude.{◌≡◌, ◌≤◌, ◌<◌, ◌+◌, [], ◌∷◌, IfOk, IfErr};
+ghost use Rattle.std.specs.Prelude.{◌≡◌, ◌≤◌, ◌<◌, ◌+◌, [], ◌∷◌, IfOk, IfErr, true};
 ghost use Rattle.verify_loop.specs.Bases.{IsNumberingFor};
 ghost use Rattle.verify_loop.specs.Outcomes.{first_clauses};
 ghost use Rattle.verify_loop.specs.Searching.{state_in};
 ghost use Rattle.verify_loop.specs.Telling.{IsProgress};
+ghost use Rattle.proof_judge.specs.Judged.{names_within};
 ghost use Rattle.rail_spec.specs.Feasible.{IsInfeasible};
 ghost use Rattle.plan_exclusion.specs.Failures.{FailsSo};
 ghost use Rattle.sat_core.specs.Runs.{Ends};
@@ -57,6 +58,7 @@ pub(crate) struct PlanSearch<'a> {
     pub ghost numbers: { IsNumberingFor aim.base interlocking.now numbering.now },
     pub ghost at_least_one: { 1 ≤ numbering.now.steps },
     pub ghost at_most_256: { numbering.now.steps ≤ 256 },
+    pub ghost named: { names_within aim.base interlocking.now.design.station ≡ true },
     pub ghost fits: { HasFewLiterals (first_clauses aim interlocking.now.design.station numbering.now.steps) },
 }
 

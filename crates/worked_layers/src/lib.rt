@@ -3,7 +3,7 @@
 #![tactic(auto)]
 
 use anyhow::{Result, bail, ensure};
-use clause_spec::BaseKind;
+use clause_spec::{BaseKind, Turns};
 use infra_reader::read_design;
 use interlocking::{Interlocking, Steps};
 use plan_encoding::{base, base_of};
@@ -176,7 +176,7 @@ fn kind_of(name: &str) -> Result<BaseKind> {
     match name {
         "sorted" => Ok(BaseKind::Sorted),
         "normal" => Ok(BaseKind::Normal),
-        "live" => Ok(BaseKind::Live),
+        "live" => Ok(BaseKind::Live(Turns::All)),
         _ => bail!("a base is sorted, normal or live"),
     }
 }

@@ -11,4 +11,4 @@ pub returns-clause-pairs : goal.returns-clause-pairs
 returns-clause-pairs c = pairs_alike
 
 pub returns-clause-bases : goal.returns-clause-bases
-returns-clause-bases c = bases_alike
+returns-clause-bases c = λ turns live d routes n. bases_alike live d routes n turns

@@ -1,6 +1,5 @@
-use Rattle.std.proofs.Common.{◌≡◌, subst, sym}
-use Rattle.std.proofs.lemmas.Bool.{false≢true}
-use Rattle.clause_spec.specs.declared.question.BaseKind.TheVariants.{Live, Plain}
+use Rattle.std.proofs.Common.{subst, sym}
+use Rattle.clause_spec.specs.declared.question.BaseKind.TheVariants.{Plain}
 use Rattle.plan_encoding.specs.Bases.{IsBaseOf}
 use Rattle.plan_encoding.proofs.Behind.{kind_refused}
 use Rattle.plan_encoding.proofs.make.base_of.Goals as goal
@@ -14,4 +13,4 @@ extended-requires c =
 pub returns-in-Err-clause-fault : goal.returns-in-Err-clause-fault
 returns-in-Err-clause-fault c =
     let i = c.args.interlocking.now in
-    kind_refused c.args.kind i.design.station i.routes c.args.steps.count c.in-Err.fault (λ (e : c.args.kind ≡ Live). false≢true (rw e at c.if-eq.ensures)) c.in-Err.ensures.fault
+    kind_refused c.args.kind i.design.station i.routes c.args.steps.count c.in-Err.fault c.in_default.not-Live c.in-Err.ensures.fault

@@ -39,10 +39,10 @@ pub returns-in-Live-clause-base : goal.returns-in-Live-clause-base
 returns-in-Live-clause-base c =
     let i = c.args.interlocking.now in
     subst (λ (kind : BaseKind). IfOk c.live_base.result (IsBaseOf kind i.design.station i.routes c.args.base.numbering.steps)) (sym c.in-Live.is)
-    (subst (λ (n : ℕ). IfOk c.live_base.result (IsBaseOf Live i.design.station i.routes n)) c.steps-steps.ensures c.live_base.ensures.base)
+    (subst (λ (n : ℕ). IfOk c.live_base.result (IsBaseOf (Live c.in-Live.turns) i.design.station i.routes n)) c.steps-steps.ensures c.live_base.ensures.base)
 
 pub returns-in-Live-clause-fault : goal.returns-in-Live-clause-fault
 returns-in-Live-clause-fault c =
     let i = c.args.interlocking.now in
     subst (λ (kind : BaseKind). IfErr c.live_base.result (IsRefused kind i.design.station i.routes c.args.base.numbering.steps)) (sym c.in-Live.is)
-    (subst (λ (n : ℕ). IfErr c.live_base.result (IsRefused Live i.design.station i.routes n)) c.steps-steps.ensures c.live_base.ensures.fault)
+    (subst (λ (n : ℕ). IfErr c.live_base.result (IsRefused (Live c.in-Live.turns) i.design.station i.routes n)) c.steps-steps.ensures c.live_base.ensures.fault)

@@ -26,9 +26,9 @@ returns-in_err-base-clause-fault c =
     let n = c.args.steps.count in
     let cs = c.in_ok-commands.commands in
     let e = c.in_err-base.field-0.0 in
-    handed_on (IsRefused Live i.design.station i.routes n) c.from_residual-in_err-base.result e c.from_residual-in_err-base.ensures.1
-    (left_refused i.design.station i.routes n c.args.steps.at_least_one (is_live i.design.station i.routes) cs c.in_ok-commands.ensures.value e
-    (turns_refused (is_among cs) i.design.station i.routes n e c.in_err-base.ensures.fault))
+    handed_on (IsRefused (Live c.args.turns) i.design.station i.routes n) c.from_residual-in_err-base.result e c.from_residual-in_err-base.ensures.1
+    (left_refused i.design.station i.routes n c.args.steps.at_least_one c.args.turns (is_live i.design.station i.routes) cs c.in_ok-commands.ensures.value e
+    (turns_refused c.args.turns (is_among cs) i.design.station i.routes n e c.in_err-base.ensures.fault))
 
 pub returns-clause-base : goal.returns-clause-base
 returns-clause-base c =
@@ -39,7 +39,7 @@ returns-clause-base c =
     let cs = c.in_ok-base.base.numbering.commands in
     let same : cs ≡ live_commands (is_live d routes) d routes = made.base.numbering.commands ∙ (made.commands ∙ c.in_ok-commands.ensures.value) in
     if_ok c.with_turns.result
-    (λ (b : Base) o. left_of d routes n c.args.steps.at_least_one (is_live d routes) cs same b (subst (λ (m : ℕ). IsOver cs turns_base d routes m b) made.base.numbering.steps o))
+    (λ (b : Base) o. left_of d routes n c.args.steps.at_least_one c.args.turns (is_live d routes) cs same b (subst (λ (m : ℕ). IsOver cs (turns_base c.args.turns) d routes m b) made.base.numbering.steps o))
     c.with_turns.ensures.base
 
 pub returns-clause-fault : goal.returns-clause-fault
@@ -51,5 +51,5 @@ returns-clause-fault c =
     let cs = c.in_ok-base.base.numbering.commands in
     let same : cs ≡ live_commands (is_live d routes) d routes = made.base.numbering.commands ∙ (made.commands ∙ c.in_ok-commands.ensures.value) in
     if_err c.with_turns.result
-    (λ (e : BaseFault) h. left_refused d routes n c.args.steps.at_least_one (is_live d routes) cs same e (subst (λ (m : ℕ). AreRefused (turns_base (is_among cs) d routes m) e) made.base.numbering.steps h))
+    (λ (e : BaseFault) h. left_refused d routes n c.args.steps.at_least_one c.args.turns (is_live d routes) cs same e (subst (λ (m : ℕ). AreRefused (turns_base c.args.turns (is_among cs) d routes m) e) made.base.numbering.steps h))
     c.with_turns.ensures.fault

@@ -3,8 +3,8 @@ use Rattle.sat_clause.specs.declared.lit.Lit.{Lit}
 use Rattle.rail_base.specs.declared.station.TrainNo.{TrainNo}
 use Rattle.rail_base.specs.declared.plan.Command.{Command}
 use Rattle.rail_alike.specs.Turns.{AreNamed}
-use Rattle.rail_alike.specs.Tests.{neighbors}
-use Rattle.rail_alike.proofs.Next.{neighbors_named}
+use Rattle.alike_clause_spec.specs.Turns.{turn_pairs}
+use Rattle.alike_clause_spec.proofs.Holding.{turns_named}
 use Rattle.live_clause_spec.specs.Listed.{live_in_turn}
 use Rattle.live_clause_spec.specs.Variables.{live_numbered, live_pairs}
 use Rattle.command_set.specs.Commands.{AreCommandsOf, is_among}
@@ -33,7 +33,7 @@ invariant_of-encoder c =
 pub emit_turns-requires : goal.emit_turns-requires
 emit_turns-requires c =
     let d = c.args.interlocking.now.design.station in
-    subst (λ (ps : List (TrainNo × TrainNo)). AreNamed d ps) (sym (c.as_slice.ensures ∙ c.in_ok-neighbors.ensures)) (neighbors_named d)
+    subst (λ (ps : List (TrainNo × TrainNo)). AreNamed d ps) (sym (c.as_slice.ensures ∙ c.in_ok-turn_pairs.ensures)) (turns_named c.args.turns d)
 
 pub returns-in_err-emit_turns-clause-fault : goal.returns-in_err-emit_turns-clause-fault
 returns-in_err-emit_turns-clause-fault c =
@@ -45,12 +45,12 @@ returns-in_err-emit_turns-clause-fault c =
     let e = c.in_err-emit_turns.field-0.0 in
     let sink = c.behind-sink.result in
     let turns : List Command → ℕ → List (TrainNo × TrainNo) → List (List Lit) = λ xs m ps. map (map (live_numbered (is_among xs) d routes m)) (flat_map (live_in_turn (is_among xs) d routes m) ps) in
-    handed_on (AreRefused (turns_base live d routes n)) c.from_residual-in_err-emit_turns.result e c.from_residual-in_err-emit_turns.ensures.1
-    (subst (λ xs. AreRefused xs e) (sym (turns_parts live d routes n))
-    (behind_refused live (plain_base live d routes n) d routes n b c.requires.base.base (turns b.numbering.commands n (neighbors d)) sink c.behind-sink.ensures e
-    (subst (λ (m : ℕ). FaultSays (emitted sink (turns b.numbering.commands m (neighbors d))) e) c.steps.ensures
-    (subst (λ (xs : List Command). FaultSays (emitted sink (turns xs c.steps.result.count (neighbors d))) e) c.pairs.ensures.commands
-    (subst (λ (ps : List (TrainNo × TrainNo)). FaultSays (emitted sink (turns c.pairs.result.now.commands c.steps.result.count ps)) e) (c.as_slice.ensures ∙ c.in_ok-neighbors.ensures)
+    handed_on (AreRefused (turns_base c.args.turns live d routes n)) c.from_residual-in_err-emit_turns.result e c.from_residual-in_err-emit_turns.ensures.1
+    (subst (λ xs. AreRefused xs e) (sym (turns_parts c.args.turns live d routes n))
+    (behind_refused live (plain_base live d routes n) d routes n b c.requires.base.base (turns b.numbering.commands n (turn_pairs c.args.turns d)) sink c.behind-sink.ensures e
+    (subst (λ (m : ℕ). FaultSays (emitted sink (turns b.numbering.commands m (turn_pairs c.args.turns d))) e) c.steps.ensures
+    (subst (λ (xs : List Command). FaultSays (emitted sink (turns xs c.steps.result.count (turn_pairs c.args.turns d))) e) c.pairs.ensures.commands
+    (subst (λ (ps : List (TrainNo × TrainNo)). FaultSays (emitted sink (turns c.pairs.result.now.commands c.steps.result.count ps)) e) (c.as_slice.ensures ∙ c.in_ok-turn_pairs.ensures)
     c.in_err-emit_turns.ensures.err)))))
 
 pub returns-clause-base : goal.returns-clause-base
@@ -65,11 +65,11 @@ returns-clause-base c =
     let turns : List Command → ℕ → List (TrainNo × TrainNo) → List (List Lit) = λ xs m ps. map (map (live_numbered (is_among xs) d routes m)) (flat_map (live_in_turn (is_among xs) d routes m) ps) in
     record {
       commands = c.requires.base.commands;
-      base = with_turns_made live d routes n _
-          (behind_made live (plain_base live d routes n) d routes n b c.requires.base.base (turns b.numbering.commands n (neighbors d)) sink c.behind-sink.ensures new
-          (subst (λ (m : ℕ). emitted sink (turns b.numbering.commands m (neighbors d)) ≡ Emitted new) c.steps.ensures
-          (subst (λ (xs : List Command). emitted sink (turns xs c.steps.result.count (neighbors d)) ≡ Emitted new) c.pairs.ensures.commands
-          (subst (λ (ps : List (TrainNo × TrainNo)). emitted sink (turns c.pairs.result.now.commands c.steps.result.count ps) ≡ Emitted new) (c.as_slice.ensures ∙ c.in_ok-neighbors.ensures)
+      base = with_turns_made c.args.turns live d routes n _
+          (behind_made live (plain_base live d routes n) d routes n b c.requires.base.base (turns b.numbering.commands n (turn_pairs c.args.turns d)) sink c.behind-sink.ensures new
+          (subst (λ (m : ℕ). emitted sink (turns b.numbering.commands m (turn_pairs c.args.turns d)) ≡ Emitted new) c.steps.ensures
+          (subst (λ (xs : List Command). emitted sink (turns xs c.steps.result.count (turn_pairs c.args.turns d)) ≡ Emitted new) c.pairs.ensures.commands
+          (subst (λ (ps : List (TrainNo × TrainNo)). emitted sink (turns c.pairs.result.now.commands c.steps.result.count ps) ≡ Emitted new) (c.as_slice.ensures ∙ c.in_ok-turn_pairs.ensures)
           c.in_ok-emit_turns.ensures.ok)))
           _ c.requires.base.base.numbering c.into_clauses.ensures c.literals-literals.ensures);
     }

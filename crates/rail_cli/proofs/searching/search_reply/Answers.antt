@@ -1,10 +1,11 @@
-use Rattle.std.proofs.Common.{rules, ℕ, Vec, Global, ap, sym, ◌∙◌, subst}
+use Rattle.std.proofs.Common.{rules, ◌≡◌, ℕ, true, Vec, Global, ap, sym, ◌∙◌, subst}
 use Rattle.interlocking.specs.declared.railway.Interlocking.{Interlocking}
 use Rattle.cli_shell.specs.Answers.{design_in}
 use Rattle.cli_shell.proofs.Asking.{first_of_two, second_of_two}
-use Rattle.rail_cli.proofs.Finding.{RepliesBy, unfetched_so, unread_so, spelled_so, ended_so}
+use Rattle.rail_cli.proofs.Finding.{RepliesBy, aim_named, unfetched_so, unread_so, spelled_so, ended_so}
 use Rattle.rail_cli.proofs.Leaving.{early_leaves}
 use Rattle.rail_cli.proofs.AnyShelf.{unsearched, unsearched_design, all_searched}
+use Rattle.proof_judge.specs.Judged.{names_within}
 use Rattle.rail_cli.specs.Answers.{aim_of}
 use Rattle.verify_loop.specs.declared.outcome.Aim.{Aim}
 use Rattle.verify_loop.specs.Telling.{TellsHowFar}
@@ -26,6 +27,9 @@ returns-in_err-bytes-clause-asks g c = first_of_two _ _ _ _ c.fetch.ensures.asks
 pub returns-in_err-interlocking-clause-replies : goal.returns-in_err-interlocking-clause-replies
 returns-in_err-interlocking-clause-replies g c = λ files reply_for.
     unread_so files c.args.steps c.args.mode c.args.budgets c.args.design.now c.args.proof.now c.in_ok-bytes.bytes.items (c.in_ok-bytes.ensures.reads files reply_for) (λ (i : Interlocking). i.design.station) c.in_err-interlocking.field-0.0 c.from_residual-in_err-interlocking.result (search rules) (rw c.as_slice.ensures.value at c.in_err-interlocking.ensures.reads)
+
+pub searched_in-requires-clause-named : goal.searched_in-requires-clause-named
+searched_in-requires-clause-named g c = subst (λ (m : Aim). names_within m.base c.in_ok-interlocking.interlocking.design.station ≡ true) (sym c.aim_of-aim.ensures) (aim_named c.args.mode c.in_ok-interlocking.interlocking.design.station)
 
 pub returns-clause-replies : goal.returns-clause-replies
 returns-clause-replies g c = λ files reply_for.

@@ -69,13 +69,14 @@ after_denial-requires g c =
     let room : two.recorder.limit ≡ b.log_bytes = some-same two.recorder.limit one.recorder.limit (run.6.limit ∙ run.3.limit) ∙ c.requires.state.limit in
     let within = two.recorder.within in
     let fits = c.args.self.now.fits in
-    let kept = kept_so m d n good c.args.self.now.at_most_256 in
+    let kept = kept_so m d n good c.args.self.now.at_most_256 c.args.self.now.named in
+    let named = c.args.self.now.named in
     let less : derive_count run.0 < b.conflicts - one.derives = (let most = run.4 in let is = c.min-allowed.ensures in let spent = c.derives.ensures in omega arith) in
     record {
       at_most_n = c.requires.state.at_most_n;
       of_all = λ told. let which = subst (λ (z : List Lit). (z ≡ []) ⊎ (c.args.search.steps ≡ n)) c.as_slice.ensures.value told in (
-        infeasible_so m d n b some one.arena one.recorder one.learnt.items one.vars one.derives c.args.search.failed.items c.args.search.sum c.args.search.steps c.requires.state run.1 new run.0 core run.2 run.3 run.5 run.6 few which kept fits good ended_runs yes_is_so,
-        proof_so m d n b some one.arena one.recorder one.learnt.items one.vars one.derives c.args.search.failed.items c.args.search.sum c.args.search.steps c.requires.state run.1 new run.0 core run.2 run.3 run.5 run.6 few which kept fits less ended_runs,
+        infeasible_so m d n b some one.arena one.recorder one.learnt.items one.vars one.derives c.args.search.failed.items c.args.search.sum c.args.search.steps c.requires.state run.1 new run.0 core run.2 run.3 run.5 run.6 few which kept named fits good ended_runs yes_is_so,
+        proof_so m d n b some one.arena one.recorder one.learnt.items one.vars one.derives c.args.search.failed.items c.args.search.sum c.args.search.steps c.requires.state run.1 new run.0 core run.2 run.3 run.5 run.6 few which kept named fits less ended_runs,
         omega (arith, room, within),
       );
       of_these = λ some_there fewer. let not_empty : core ≡ [] → ⊥ = λ e. some_there (c.as_slice.ensures.value ∙ e) in (
