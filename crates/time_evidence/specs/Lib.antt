@@ -1,0 +1,2 @@
+-- What stays shown with less time.
+pub mod Laws
