@@ -228,7 +228,7 @@ class Base:
                             self.before.setdefault((t, r), []).append(d)
         self.last = len(self.commands) * n + len(self.pairs) + n
         self.clauses = list(self.made())
-        self.turns = self.normal = None
+        self.turns, self.normal = {}, None
 
     def given(self, c, i):
         return self.place[c] * self.n + i
@@ -310,18 +310,21 @@ class Base:
         for q in onward:
             yield from self.chains(chain + [q], clear)
 
-    def turn_clauses(self):
-        if self.turns is None:
-            self.turns = []
+    def turn_clauses(self, within):
+        """The turns, of all trains, or of those that the greatest time of this number doesn't name."""
+        if within not in self.turns:
+            turns = self.turns[within] = []
             design = self.design
-            for t in range(1, design.T + 1):
-                u = next((u for u in range(t + 1, design.T + 1) if are_alike(design, t, u)), None)
+            named = () if within is None else (design.withins[within - 1][0], design.withins[within - 1][2])
+            trains = [t for t in range(1, design.T + 1) if t not in named]
+            for place, t in enumerate(trains):
+                u = next((u for u in trains[place + 1:] if are_alike(design, t, u)), None)
                 if u is not None:
                     for q in design.begins(u):
                         for i in range(1, self.n + 1):
                             if (u, q) in self.place:
-                                self.turns.append((-self.given((u, q), i),) + self.some_given(t, design.begins(t), i))
-        return self.turns
+                                turns.append((-self.given((u, q), i),) + self.some_given(t, design.begins(t), i))
+        return self.turns[within]
 
     def given_in(self, c, i):
         return self.last + self.given(c, i)
@@ -355,10 +358,10 @@ class Base:
                     self.normal.append((-given_in(c, i),) + tuple(given_in(e, i - 1) for e in leaders + keepers))
         return self.normal
 
-    def behind(self, version):
+    def behind(self, version, within=None):
         """The clauses behind those of the base under a head, and the number of the last variable."""
-        if version in (4, 5):
-            return self.turn_clauses(), self.last
+        if version in (4, 5, 6):
+            return self.turn_clauses(within), self.last
         if version == 3:
             return self.normal_clauses(), self.last + len(self.commands) * self.n
         return [], self.last
@@ -436,7 +439,7 @@ def some(found):
 
 
 def head_of(text):
-    """None, or the version of the file with the version of the design and the steps that it names."""
+    """None, or the version of the file with the version of the design, the steps and the greatest time that it names."""
     try:
         words = Words(text)
         if words.text() != b"rcvlog":
@@ -444,9 +447,9 @@ def head_of(text):
         version = words.text()
         if version == b"1":
             words.end()
-            return (1, None, None)
-        if version in (b"2", b"3", b"4", b"5"):
-            head = (int(version), words.long(), words.long())
+            return (1, None, None, None)
+        if version in (b"2", b"3", b"4", b"5", b"6"):
+            head = (int(version), words.long(), words.long(), words.long() if version == b"6" else None)
             words.end()
             return head
         return None
@@ -1122,7 +1125,7 @@ class Log:
         if kind == b"r":
             self.clauses.append(cone_line(self.base, words))
         elif kind == b"b":
-            if version not in (4, 5):
+            if version not in (4, 5, 6):
                 raise Bad("text")
             self.clauses.append(bound_line(self.base, words))
         elif kind == b"x":
@@ -1153,7 +1156,7 @@ def judge(design, n, data):
     if not lines[-1]:
         lines.pop(), ends.pop()
     head = head_of(lines[0]) if lines and ends[0] else None
-    of_live = head is not None and head[0] == 5
+    of_live = head is not None and head[0] in (5, 6)
     base = base_for(design, n, of_live)
     many = lambda clauses: sum(len(clause) for clause in clauses)
     if not of_live and many(base.clauses) > LITERALS:
@@ -1162,9 +1165,9 @@ def judge(design, n, data):
         return "no line 1 no final line"
     if head is None:
         return "no line 1 text"
-    if head[0] != 1 and head[1:] != (design.version, n):
+    if head[0] != 1 and head[1:3] != (design.version, n) or head[0] == 6 and not 1 <= head[3] <= len(design.withins):
         return "no line 1 head differs"
-    more, last = base.behind(head[0])
+    more, last = base.behind(head[0], head[3])
     clauses = base.clauses + more
     if many(clauses) > LITERALS:
         return "no line 1 base too large"

@@ -235,10 +235,12 @@ def made_file(chance, text, n):
             text = with_ticks(chance, text, design, words)
     design = check.Design(text)
     line = " ".join(map(str, words)).encode()
-    version = chance.choice((4, 5))
-    lines = [b"rcvlog %d %d %d" % (version, design.version, n), line]
-    base = check.base_for(design, n, version == 5)
-    more, last = base.behind(version)
+    version = chance.choice((4, 5, 6) if design.withins else (4, 5))
+    within = chance.randrange(1, 1 + len(design.withins)) if version == 6 else None
+    named = b" %d" % within if version == 6 else b""
+    lines = [b"rcvlog %d %d %d" % (version, design.version, n) + named, line]
+    base = check.base_for(design, n, version in (5, 6))
+    more, last = base.behind(version, within)
     log = check.Log(base, base.clauses + more, last)
     try:
         log.line(line, version)

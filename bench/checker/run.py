@@ -180,7 +180,8 @@ def forget(chance, lines):
 def other_head(chance, lines):
     steps = chance.randrange(1, 9)
     lines[0] = chance.choice((b"rcvlog 1", b"rcvlog 2", b"rcvlog 4 1 2", b"rcvlog 5 1 2",
-                              *(b"rcvlog %d 1 %d" % (version, steps) for version in (2, 3, 4, 5))))
+                              *(b"rcvlog %d 1 %d" % (version, steps) for version in (2, 3, 4, 5)),
+                              *(b"rcvlog 6 1 %d %d" % (steps, within) for within in (0, 1, 2))))
 
 
 CHANGES = [other_number] * 20 + [sign, drop_line, swap_lines] * 2 + [other_word, double_line, forget, other_head]
