@@ -12,8 +12,8 @@ use Rattle.cli_shell.specs.declared.status.Status.{Status}
 use Rattle.cli_shell.specs.declared.status.Status.TheVariants.{DesignRefused, TooLong}
 use Rattle.cli_shell.specs.declared.input.InputFile.{InputFile}
 use Rattle.cli_shell.specs.Statuses.{is_verdict}
-use Rattle.cli_shell.specs.Texts.{limit_of, too_long_line, design_refused_line}
-use Rattle.cli_shell.specs.Answers.{ReplySeen, one_line, within_limit, edge_place, with_routes, design_or_answer, and_then, design_in, unless_refused}
+use Rattle.cli_shell.specs.Texts.{limit_of, too_long_line, design_refused_line, no_within_line}
+use Rattle.cli_shell.specs.Answers.{ReplySeen, one_line, within_limit, edge_place, with_routes, design_or_answer, and_then, design_in, with_within, unless_refused}
 
 -- ---- what refuses ends with no verdict
 
@@ -43,6 +43,13 @@ pub design_refuses : (r : Result Station (Code × Place)) (a : ReplySeen) → de
 design_refuses (Ok d) a e verdict = absurd (cc)
 design_refuses (Err x) a e verdict = refused (design_or_answer (Err x)) DesignRefused (design_refused_line x.0 x.1) a refl e refl verdict
 
+pub within_refuses : (w : ℕ) (d : Station) (a : ReplySeen) → with_within w d ≡ Err a → is_verdict a.status ≡ true → ⊥
+within_refuses w d a = go (nat_le w (length d.withins)) a
+  where
+    go : (has : Bool) (a : ReplySeen) → (if has then Ok d else Err (one_line DesignRefused no_within_line)) ≡ Err a → is_verdict a.status ≡ true → ⊥
+    go true a e verdict = absurd (cc)
+    go false a e verdict = refused (Err (one_line DesignRefused no_within_line)) DesignRefused no_within_line a refl e refl verdict
+
 -- ---- the design that is read is the one that is spelled
 
 not_refused : (code : Code) (places : List Place) (next : Result Station (Code × Place)) (e : Station) → unless_at code places next ≡ Ok e → next ≡ Ok e
@@ -64,3 +71,10 @@ routes_answer-same d e h = with_routes-same d e (admitted-same (with_routes d) e
 
 pub read-same : (bytes : List ℕ) (d e : Station) → design_of bytes ≡ Ok d → design_in bytes ≡ Ok e → d ≡ e
 read-same bytes d e spells read = routes_answer-same d e (ap (λ r. design_or_answer (and_then r with_routes)) (sym spells) ∙ read)
+
+pub within-same : (w : ℕ) (d e : Station) → with_within w d ≡ Ok e → d ≡ e
+within-same w d e = go (nat_le w (length d.withins))
+  where
+    go : (has : Bool) → (if has then Ok d else Err (one_line DesignRefused no_within_line)) ≡ Ok e → d ≡ e
+    go true h = cc
+    go false h = absurd (cc)

@@ -1,5 +1,5 @@
 -- No refusal of a file has the status of usage.
-use Rattle.std.proofs.Common.{◌≡◌, ℕ, Bool, true, false, List, length, nat_lt, if◌then◌else◌, Result, Ok, Err, refl, ap, ◌∙◌}
+use Rattle.std.proofs.Common.{◌≡◌, ℕ, Bool, true, false, List, length, nat_lt, nat_le, if◌then◌else◌, Result, Ok, Err, refl, ap, ◌∙◌}
 use Rattle.design_table.specs.declared.fault.Code.{Code}
 use Rattle.design_table.specs.declared.place.Place.{Place}
 use Rattle.infra_reader.specs.Design.{design_of}
@@ -10,8 +10,8 @@ use Rattle.rail_spec.specs.Track.{routes_of}
 use Rattle.cli_shell.specs.declared.status.Status.{Status}
 use Rattle.cli_shell.specs.declared.status.Status.TheVariants.{Usage, DesignRefused, PlanRefused, TooLong}
 use Rattle.cli_shell.specs.declared.input.InputFile.{InputFile}
-use Rattle.cli_shell.specs.Texts.{limit_of, too_long_line, design_refused_line, plan_refused_line}
-use Rattle.cli_shell.specs.Answers.{ReplySeen, one_line, within_limit, with_routes, design_or_answer, and_then, design_in, plan_or_answer, plan_in}
+use Rattle.cli_shell.specs.Texts.{limit_of, too_long_line, design_refused_line, no_within_line, plan_refused_line}
+use Rattle.cli_shell.specs.Answers.{ReplySeen, one_line, within_limit, with_routes, design_or_answer, and_then, design_in, with_within, plan_or_answer, plan_in}
 
 -- no refusal of this reading has the status of usage
 abbrev pub IsNoUsage : {X : Type 0} → Result X ReplySeen → Type 0
@@ -34,6 +34,13 @@ refused_design (Err x) a e is = let kind : DesignRefused ≡ Usage = one_status 
 
 pub design_is_no_usage : (text : List ℕ) → IsNoUsage (design_in text)
 design_is_no_usage text = refused_design (and_then (design_of text) with_routes)
+
+pub within_is_no_usage : (w : ℕ) (d : Station) → IsNoUsage (with_within w d)
+within_is_no_usage w d a = go (nat_le w (length d.withins)) a
+  where
+    go : (has : Bool) (a : ReplySeen) → (if has then Ok d else Err (one_line DesignRefused no_within_line)) ≡ Err a → a.status ≡ Usage → ⊥
+    go true a e is = absurd (cc)
+    go false a e is = let kind : DesignRefused ≡ Usage = one_status (Err (one_line DesignRefused no_within_line)) DesignRefused no_within_line a refl e is in absurd (cc)
 
 refused_plan : (d : Station) (r : Result (List (List Command)) Refusal) → IsNoUsage (plan_or_answer d r)
 refused_plan d (Ok plan) a e is = absurd (cc)

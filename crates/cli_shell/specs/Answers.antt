@@ -22,7 +22,7 @@ use Rattle.cli_shell.specs.declared.input.InputFile.{InputFile}
 use Rattle.cli_shell.specs.declared.input.InputFile.TheVariants as file
 use Rattle.cli_shell.specs.Listings.{routes_text}
 use Rattle.cli_shell.specs.Shows.{verdict_at_horizon}
-use Rattle.cli_shell.specs.Texts.{limit_of, too_long_line, design_refused_line, plan_refused_line}
+use Rattle.cli_shell.specs.Texts.{limit_of, too_long_line, design_refused_line, no_within_line, plan_refused_line}
 
 -- what the program answers: the status to end with, and the lines to print
 pub record ReplySeen : Type 0 where
@@ -64,6 +64,11 @@ and_then (Err r) next = Err r
 -- the design in the bytes, whose routes can be listed
 abbrev pub design_in : List ℕ → Result Station ReplySeen
 design_in bytes = design_or_answer (and_then (design_of bytes) with_routes)
+
+-- a design that has a within of this number
+abbrev pub with_within : ℕ → Station → Result Station ReplySeen
+with_within w d =
+    if nat_le w (length d.withins) then Ok d else Err (one_line status.DesignRefused no_within_line)
 
 -- a plan or its refusal, as an answer
 abbrev pub plan_or_answer : Station → Result (List (List Command)) Refusal → Result (List (List Command)) ReplySeen

@@ -25,7 +25,8 @@ abbrev pub usage_line : List ℕ
 usage_line =
     codes "usage: rcv simulate DESIGN PLAN; rcv routes DESIGN; "
     ++ codes "rcv verify [--normal] --steps N --conflicts C --ticks T DESIGN PROOF; "
-    ++ codes "rcv check --steps N DESIGN PROOF; rcv trial SEED SIZE\n"
+    ++ codes "rcv tightest --steps N --conflicts C --ticks T --within W DESIGN PROOF; "
+    ++ codes "rcv check [--within W --max-ms X] --steps N DESIGN PROOF; rcv trial SEED SIZE\n"
 
 -- ---- files that are too long
 
@@ -84,6 +85,10 @@ design_refused_line c p = codes "design refused " ++ code_text c ++ codes " " ++
 -- the clauses of the design are too many
 abbrev pub too_large_line : List ℕ
 too_large_line = codes "design refused D14 base\n"
+
+-- the design has no within of this number
+abbrev pub no_within_line : List ℕ
+no_within_line = codes "design refused D15 within\n"
 
 -- ---- a refused plan
 

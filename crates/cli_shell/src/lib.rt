@@ -17,8 +17,10 @@ pub use ending::Ending;
 pub use input::InputFile;
 pub use listing::routes_reply;
 pub use printing::print;
-pub use reading::{admit, admit_design, fetch, interlock};
-pub use refusals::{design_refused, ending_of, one_line, plan_refused, too_large, too_long, usage};
+pub use reading::{admit, admit_design, admit_within, fetch, interlock};
+pub use refusals::{
+    design_refused, ending_of, no_within, one_line, plan_refused, too_large, too_long, usage,
+};
 pub use reply::Reply;
 pub use simulation::{read_steps, simulation_reply};
 pub use status::Status;

@@ -1,17 +1,17 @@
 //! The files of a command, read.
 
-ghost use Rattle.std.specs.Prelude.{◌≡◌, ◌≤◌, [], ◌∷◌, IfOk, OnOk, Some, ℕ, List};
+ghost use Rattle.std.specs.Prelude.{◌≡◌, ◌≤◌, [], ◌∷◌, length, IfOk, OnOk, Some, ℕ, List};
 ghost use Rattle.rail_outside.specs.Asks.{fetched};
 ghost use Rattle.rail_outside.specs.Files.{Files};
 ghost use Rattle.rail_outside.specs.Growth.{Rose, grown, GrowsByPrefix};
-ghost use Rattle.cli_shell.specs.Answers.{within_limit, with_routes, design_or_answer, and_then, design_in};
+ghost use Rattle.cli_shell.specs.Answers.{within_limit, with_routes, design_or_answer, and_then, design_in, with_within};
 ghost use Rattle.cli_shell.specs.Replies.{ReadsOrEnds, RefusesFile, OnlyRefuses};
 ghost use Rattle.infra_reader.specs.Design.{design_of};
 ghost use Rattle.design_table.specs.Reads.{GivesOrRefuses};
 
 use crate::ending::Ending;
 use crate::input::InputFile;
-use crate::refusals::{design_refused, ending_of, too_long};
+use crate::refusals::{design_refused, ending_of, no_within, too_long};
 use design_table::{Code, DesignFault, EntryKind, Place};
 use infra_reader::read_design;
 use interlocking::Interlocking;
@@ -101,4 +101,16 @@ pub fn interlock(alloc: Global, design: Design) -> Result<Interlocking, Ending>
         }
         Err(DesignFault::Memory) => Err(Ending::Memory),
     }
+}
+
+/// Whether a design has a within of this number. The ending says that it has none, or is want of memory.
+pub fn admit_within(alloc: Global, design: &Design, within: u32) -> Result<(), Ending>
+    ensures reads { let d = design.now.station in ReadsOrEnds (λ _. d) result (with_within within d) }
+    ensures refuses { OnlyRefuses result }
+    ensures has { OnOk result (within ≤ length design.now.station.withins) }
+{
+    if within as usize <= design.station.withins.len() {
+        return Ok(());
+    }
+    Err(ending_of(no_within(alloc)))
 }

@@ -3,7 +3,7 @@
 ghost use Rattle.std.specs.Prelude.{◌≡◌, true};
 ghost use Rattle.cli_shell.specs.Statuses.{is_answered};
 ghost use Rattle.cli_shell.specs.Texts.{usage_line, too_long_line, design_refused_line, too_large_line};
-ghost use Rattle.cli_shell.specs.Texts.{plan_refused_line};
+ghost use Rattle.cli_shell.specs.Texts.{no_within_line, plan_refused_line};
 ghost use Rattle.cli_shell.specs.Answers.{one_line};
 ghost use Rattle.cli_shell.specs.Replies.{RepliesWith, ending_of};
 
@@ -12,7 +12,8 @@ use crate::input::InputFile;
 use crate::reply::Reply;
 use crate::status::Status;
 use crate::texts::{
-    design_refused_line, plan_refused_line, too_large_line, too_long_line, usage_line,
+    design_refused_line, no_within_line, plan_refused_line, too_large_line, too_long_line,
+    usage_line,
 };
 use design_table::{Code, Place};
 use rail_base::design::Design;
@@ -60,6 +61,13 @@ pub fn too_large(alloc: Global) -> Result<Reply, AllocError>
     ensures { RepliesWith result (one_line Status.DesignRefused too_large_line) }
 {
     one_line(alloc, Status::DesignRefused, too_large_line(alloc)?)
+}
+
+/// The design has no within of the number that is asked for. The error is want of memory.
+pub fn no_within(alloc: Global) -> Result<Reply, AllocError>
+    ensures { RepliesWith result (one_line Status.DesignRefused no_within_line) }
+{
+    one_line(alloc, Status::DesignRefused, no_within_line(alloc)?)
 }
 
 /// The plan is refused, with this code at this place. The error is want of memory.

@@ -3,7 +3,7 @@
 
 ghost use Rattle.std.specs.Prelude.{◌≡◌, ◌++◌, codes, decimal, IfOk, OnOk};
 ghost use Rattle.cli_shell.specs.Texts.{usage_line, too_long_line, code_text, entry_text, place_text};
-ghost use Rattle.cli_shell.specs.Texts.{design_refused_line, too_large_line, plan_code_text, step_text, train_text};
+ghost use Rattle.cli_shell.specs.Texts.{design_refused_line, too_large_line, no_within_line, plan_code_text, step_text, train_text};
 ghost use Rattle.cli_shell.specs.Texts.{plan_place_text, plan_refused_line, plan_line};
 
 use crate::input::InputFile;
@@ -29,7 +29,12 @@ pub(crate) fn usage_line(alloc: Global) -> Result<Vec<u8>, AllocError>
     line.extend_from_slice(
         b"rcv verify [--normal] --steps N --conflicts C --ticks T DESIGN PROOF; ",
     )?;
-    line.extend_from_slice(b"rcv check --steps N DESIGN PROOF; rcv trial SEED SIZE\n")?;
+    line.extend_from_slice(
+        b"rcv tightest --steps N --conflicts C --ticks T --within W DESIGN PROOF; ",
+    )?;
+    line.extend_from_slice(
+        b"rcv check [--within W --max-ms X] --steps N DESIGN PROOF; rcv trial SEED SIZE\n",
+    )?;
     Ok(line)
 }
 
@@ -66,6 +71,13 @@ pub(crate) fn too_large_line(alloc: Global) -> Result<Vec<u8>, AllocError>
     ensures { IfOk result (λ line. line.items ≡ too_large_line) }
 {
     Vec::from_slice(alloc, b"design refused D14 base\n")
+}
+
+/// The design has no within of this number.
+pub(crate) fn no_within_line(alloc: Global) -> Result<Vec<u8>, AllocError>
+    ensures { IfOk result (λ line. line.items ≡ no_within_line) }
+{
+    Vec::from_slice(alloc, b"design refused D15 within\n")
 }
 
 /// `plan refused <code> <place>`

@@ -2,7 +2,7 @@
 -- program's name, taken as `rcv routes`, `rcv trial` and `rcv simulate` take them.
 use Rattle.std.specs.Prelude.{ℕ, ◌≤◌, Bool, ◌||◌, List, [], ◌∷◌, Option, Some, None, bytes_eq, codes, if◌then◌else◌}
 use Rattle.clap.specs.Words.{Text}
-use Rattle.rail_words.specs.Requests.{RequestSeen, simulate, routes, verify, check, trial, request_of}
+use Rattle.rail_words.specs.Requests.{RequestSeen, simulate, routes, verify, tightest, check, trial, request_of}
 use Rattle.design_cli.specs.declared.wanted.Form.{Form}
 use Rattle.design_cli.specs.declared.wanted.Form.TheVariants.{Names, Numbers}
 
@@ -47,7 +47,8 @@ by_request form (Some (routes design)) = Some (in_file design)
 by_request form (Some (trial seed size)) = Some (of_trial seed size)
 by_request form (Some (simulate design plan)) = Some (of_plan form design plan)
 by_request form (Some (verify n conflicts ticks mode design proof)) = None
-by_request form (Some (check n design proof)) = None
+by_request form (Some (tightest n conflicts ticks within bounds design proof)) = None
+by_request form (Some (check n in_time design proof)) = None
 by_request form None = None
 
 -- what the words ask for

@@ -111,6 +111,7 @@ fn by_request<'a>(form: Form, request: Request<'a>) -> Option<Wanted<'a>>
         Request::Trial { seed, size } => Some(Wanted::OfTrial { seed, size }),
         Request::Simulate { design, plan } => Some(Wanted::OfPlan { form, design, plan }),
         Request::Verify { .. } => None,
+        Request::Tightest { .. } => None,
         Request::Check { .. } => None,
     }
 }

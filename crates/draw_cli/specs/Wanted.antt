@@ -1,7 +1,7 @@
 -- What words ask for: `DESIGN` or `DESIGN PLAN` after the program's name, taken as `rcv routes` and `rcv simulate` take them.
 use Rattle.std.specs.Prelude.{List, [], ◌∷◌, Option, Some, None, codes}
 use Rattle.clap.specs.Words.{Text}
-use Rattle.rail_words.specs.Requests.{RequestSeen, simulate, routes, verify, check, trial, request_of}
+use Rattle.rail_words.specs.Requests.{RequestSeen, simulate, routes, verify, tightest, check, trial, request_of}
 
 -- a drawing of a track, by its design's file, or of a run, by the files of its design and its plan
 pub data Wanted : Type 0 where
@@ -18,7 +18,8 @@ abbrev pub by_routes : Option RequestSeen → Option Wanted
 by_routes (Some (routes design)) = Some (track design)
 by_routes (Some (simulate design plan)) = None
 by_routes (Some (verify n conflicts ticks mode design proof)) = None
-by_routes (Some (check n design proof)) = None
+by_routes (Some (tightest n conflicts ticks within bounds design proof)) = None
+by_routes (Some (check n in_time design proof)) = None
 by_routes (Some (trial seed size)) = None
 by_routes None = None
 
@@ -27,7 +28,8 @@ abbrev pub by_simulate : Option RequestSeen → Option Wanted
 by_simulate (Some (simulate design plan)) = Some (run design plan)
 by_simulate (Some (routes design)) = None
 by_simulate (Some (verify n conflicts ticks mode design proof)) = None
-by_simulate (Some (check n design proof)) = None
+by_simulate (Some (tightest n conflicts ticks within bounds design proof)) = None
+by_simulate (Some (check n in_time design proof)) = None
 by_simulate (Some (trial seed size)) = None
 by_simulate None = None
 

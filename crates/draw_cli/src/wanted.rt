@@ -90,6 +90,7 @@ fn by_routes<'a>(request: Request<'a>) -> Option<Wanted<'a>>
         Request::Routes { design } => Some(Wanted::Track { design }),
         Request::Simulate { .. } => None,
         Request::Verify { .. } => None,
+        Request::Tightest { .. } => None,
         Request::Check { .. } => None,
         Request::Trial { .. } => None,
     }
@@ -103,6 +104,7 @@ fn by_simulate<'a>(request: Request<'a>) -> Option<Wanted<'a>>
         Request::Simulate { design, plan } => Some(Wanted::Run { design, plan }),
         Request::Routes { .. } => None,
         Request::Verify { .. } => None,
+        Request::Tightest { .. } => None,
         Request::Check { .. } => None,
         Request::Trial { .. } => None,
     }

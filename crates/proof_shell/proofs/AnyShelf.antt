@@ -1,35 +1,47 @@
 -- Answers to a check, for some bytes of its files.
-use Rattle.std.proofs.Common.{◌≡◌, ℕ, List, [], Result, Ok, Err, Vec, Global, refl, sym, subst}
+use Rattle.std.proofs.Common.{◌≡◌, ℕ, List, [], Option, Result, Ok, Err, Vec, Global, refl, sym, ◌∙◌, subst}
 use Rattle.rail_base.specs.declared.station.Station.{Station}
+use Rattle.rail_words.specs.declared.request.InTime.{InTime}
 use Rattle.cli_shell.specs.declared.input.InputFile.TheVariants as file
 use Rattle.cli_shell.specs.declared.reply.Reply.{Reply}
 use Rattle.cli_shell.specs.declared.ending.Ending.{Ending}
 use Rattle.cli_shell.specs.declared.ending.Ending.TheVariants as ending
 use Rattle.cli_shell.specs.Answers.{ReplySeen, within_limit, design_in, unless_refused}
-use Rattle.proof_shell.specs.Answers.{for_file, checked_against, with_proof, check_reply}
+use Rattle.proof_shell.specs.Answers.{timed, for_file, checked_against, with_proof, check_reply}
 use Rattle.cli_shell.specs.Replies.{ReadsOrEnds, Replies}
 use Rattle.cli_shell.proofs.Deciding.{answered_next}
 use Rattle.cli_shell.proofs.AnyShelf.{ends_so, with_text, with_design}
 
-abbrev checked_text : ℕ → List ℕ → List ℕ → ReplySeen
-checked_text n proof_bytes text = unless_refused (design_in text) (λ d. with_proof n d proof_bytes)
+module _ (n : ℕ) (t : Option InTime) (proof_bytes : List ℕ) where
+  -- what is left of a check with the design
+  abbrev timed_design : Station → ReplySeen
+  timed_design d = unless_refused (timed n t d) (λ e. with_proof n e proof_bytes)
 
-module _ (r : Result Reply Ending) (n : ℕ) where
+  -- and with its text
+  abbrev checked_text : List ℕ → ReplySeen
+  checked_text text = unless_refused (design_in text) timed_design
+
+module _ (r : Result Reply Ending) (n : ℕ) (t : Option InTime) where
   abbrev CheckedSo : Type 0
-  CheckedSo = (a : List ℕ) × (b : List ℕ) × Replies r (check_reply n a b)
+  CheckedSo = (a : List ℕ) × (b : List ℕ) × Replies r (check_reply n t a b)
 
-  checked_so : (a b : List ℕ) → Replies r (check_reply n a b) → CheckedSo
+  checked_so : (a b : List ℕ) → Replies r (check_reply n t a b) → CheckedSo
   checked_so a b h = (a, b, h)
 
   pub unchecked : (e : Ending) → r ≡ Err e → (bytes : List ℕ) × ReadsOrEnds (λ (v : Vec ℕ Global). v.items) (Err e) (within_limit file.Design bytes) → CheckedSo
-  unchecked e is h = checked_so h.0 [] (ends_so r (λ (v : Vec ℕ Global). v.items) e _ (checked_text n []) _ is h.1 refl)
+  unchecked e is h = checked_so h.0 [] (ends_so r (λ (v : Vec ℕ Global). v.items) e _ (checked_text n t []) _ is h.1 refl)
 
   module _ (text : List ℕ) (first : (bytes : List ℕ) × (within_limit file.Design bytes ≡ Ok text)) where
     pub unchecked_design : {X : Type 0} (view : X → Station) (e : Ending) → r ≡ Err e → ReadsOrEnds view (Err e) (design_in text) → CheckedSo
-    unchecked_design view e is h = checked_so first.0 [] (ends_so r view e (design_in text) (λ d. with_proof n d []) _ is h (with_text first.0 text first.1 (λ d. with_proof n d [])))
+    unchecked_design view e is h = checked_so first.0 [] (ends_so r view e (design_in text) (timed_design n t []) _ is h (with_text first.0 text first.1 (timed_design n t [])))
 
-    pub all_checked : (d : Station) → design_in text ≡ Ok d → (bytes : List ℕ) × Replies r (with_proof n d bytes) → CheckedSo
-    all_checked d reads h = checked_so first.0 h.0 (subst (Replies r) (sym (with_design first.0 text first.1 (λ e. with_proof n e h.0) d reads)) h.1)
+    module _ (d : Station) (reads : design_in text ≡ Ok d) where
+      pub untimed : {X : Type 0} (view : X → Station) (e : Ending) → r ≡ Err e → ReadsOrEnds view (Err e) (timed n t d) → CheckedSo
+      untimed view e is h = checked_so first.0 [] (ends_so r view e (timed n t d) (λ c. with_proof n c []) _ is h (with_design first.0 text first.1 (timed_design n t []) d reads))
+
+      pub all_checked : (c : Station) → timed n t d ≡ Ok c → (bytes : List ℕ) × Replies r (with_proof n c bytes) → CheckedSo
+      all_checked c put h =
+          checked_so first.0 h.0 (subst (Replies r) (sym (with_design first.0 text first.1 (timed_design n t h.0) d reads ∙ answered_next (timed n t d) c (λ e. with_proof n e h.0) put)) h.1)
 
 module _ (r : Result Reply Ending) (n : ℕ) (d : Station) where
   -- for some bytes of the proof

@@ -1,5 +1,6 @@
 -- Checks in which the file shows something.
-use Rattle.std.proofs.Common.{◌≡◌, ℕ, ◌+◌, ◌≤◌, Bool, true, false, List, [], ◌∷◌, ◌++◌, length, nat_lt, if◌then◌else◌, Option, Some, None, Ok, Err, refl, ap, sym, ◌∙◌, subst}
+use Rattle.std.proofs.Common.{◌≡◌, ℕ, ◌+◌, ◌≤◌, ◌<◌, Bool, true, false, List, [], ◌∷◌, ◌++◌, length, nat_lt, nat_le, if◌then◌else◌, Option, Some, None, Result, Ok, Err, refl, ap, sym, ◌∙◌, subst}
+use Rattle.std.proofs.lemmas.Bool.{le-leb, lt-leb}
 use Rattle.infra_reader.specs.Design.{design_of}
 use Rattle.log_checker.specs.declared.check_result.CheckResult.{CheckResult}
 use Rattle.log_checker.specs.declared.check_result.CheckResult.TheVariants.{Yes, No}
@@ -22,7 +23,7 @@ use Rattle.cli_shell.specs.Statuses.{is_verdict}
 use Rattle.cli_shell.specs.Texts.{too_large_line}
 use Rattle.proof_shell.specs.Texts.{yes_line}
 use Rattle.cli_shell.specs.Answers.{ReplySeen, one_line, within_limit, with_routes, and_then, design_in, unless_refused}
-use Rattle.proof_shell.specs.Answers.{unless_too_large, with_clauses, for_file, reply_for, checked_against, with_proof, check_reply}
+use Rattle.proof_shell.specs.Answers.{unless_too_large, with_clauses, put_in, lacks_within, timed, for_file, reply_for, checked_against, with_proof, check_reply}
 use Rattle.cli_shell.specs.Replies.{reply_seen}
 use Rattle.cli_shell.specs.declared.reply.Reply.{Reply}
 use Rattle.plan_encoding.specs.Bases.{IsRefused}
@@ -31,7 +32,11 @@ use Rattle.plan_encoding.specs.declared.sink.BaseFault.TheVariants.{TooLarge, Me
 use Rattle.rail_base.specs.declared.route.Route.{Route}
 use Rattle.base_spec.specs.Bases.{clauses_of}
 use Rattle.cli_shell.proofs.Passing.{passed, long_refuses, design_refuses, read-same}
-use Rattle.proof_shell.proofs.Passing.{clauses_refuse}
+use Rattle.proof_shell.specs.Verdicts.{HasWithin}
+use Rattle.proof_shell.proofs.Passing.{clauses_refuse, time_refuses, timed-is}
+use Rattle.greatest_time.proofs.Admitted.{stays_admitted}
+use Rattle.rail_words.specs.declared.request.InTime.{InTime}
+use Rattle.rail_words.specs.Requests.{IsInTimeInRange}
 use Rattle.cli_shell.proofs.Refusing.{file_is}
 
 -- ---- what the file shows
@@ -61,18 +66,73 @@ judged_shows n d bytes good some done =
     let s = yes_infeasible d good n t.steps bytes some t.is in
     record { steps = t.steps; least = s.0; within = s.1.0; answer = ap reply_for t.is; none = s.1.1 }
 
-pub checked_shows : (n : ℕ) (design_bytes proof_bytes : List ℕ) (d : Station) → 1 ≤ n → design_of design_bytes ≡ Ok d → (check_reply n design_bytes proof_bytes).status ≡ Done → Shows n d (check_reply n design_bytes proof_bytes)
-checked_shows n design_bytes proof_bytes d some spells done =
-    let one = passed (within_limit file.Design design_bytes) (λ text. unless_refused (design_in text) (λ e. with_proof n e proof_bytes)) (long_refuses file.Design design_bytes) (ap is_verdict done) in
-    let two = passed (design_in one.read) (λ e. with_proof n e proof_bytes) (design_refuses (and_then (design_of one.read) with_routes)) one.verdict in
-    let three = passed (within_limit file.Proof proof_bytes) (λ proof. unless_refused (for_file n two.read proof) (λ same. checked_against two.read n proof)) (long_refuses file.Proof proof_bytes) two.verdict in
-    let four = passed (for_file n two.read three.read) (λ same. checked_against two.read n three.read) (clauses_refuse two.read (past_plain two.read n three.read)) three.verdict in
+-- the design with the time put in, and what the answer shows of it
+pub record ShowsTimed (n : ℕ) (t : Option InTime) (d : Station) (a : ReplySeen) : Type 0 where
+  pub design : Station
+  pub is : timed n t d ≡ Ok design
+  pub shows : Shows n design a
+
+-- the design with the time put in is admitted
+pub put_in_admitted : (t : Option InTime) (d : Station) → IsInTimeInRange t → HasWithin t d → IsAdmitted d → IsAdmitted (put_in t d)
+put_in_admitted None d range has good = good
+put_in_admitted (Some t) d range has good = stays_admitted d t.within range.0 has t.max_ms range.2 good
+
+pub timed_admitted : (n : ℕ) (t : Option InTime) (d e : Station) → IsInTimeInRange t → IsAdmitted d → timed n t d ≡ Ok e → IsAdmitted e
+timed_admitted n t d e range good put = let passes = timed-is n t d e put in subst IsAdmitted passes.is (put_in_admitted t d range passes.has good)
+
+-- the file is judged against the design
+proven_shows : (n : ℕ) (d : Station) (proof_bytes : List ℕ) → IsAdmitted d → 1 ≤ n → (with_proof n d proof_bytes).status ≡ Done → Shows n d (with_proof n d proof_bytes)
+proven_shows n d proof_bytes good some done =
+    let fits = passed (within_limit file.Proof proof_bytes) (λ proof. unless_refused (for_file n d proof) (λ same. checked_against d n proof)) (long_refuses file.Proof proof_bytes) (ap is_verdict done) in
+    let few = passed (for_file n d fits.read) (λ same. checked_against d n fits.read) (clauses_refuse d (past_plain d n fits.read)) fits.verdict in
+    let all : with_proof n d proof_bytes ≡ checked_against d n fits.read = fits.comes ∙ few.comes in
+    let shows = judged_shows n d fits.read good some (ap (λ (a : ReplySeen). a.status) (sym all) ∙ done) in
+    record { steps = shows.steps; least = shows.least; within = shows.within; answer = all ∙ shows.answer; none = shows.none }
+
+-- what is left of a check with the design
+abbrev design_checked : ℕ → Option InTime → List ℕ → Station → ReplySeen
+design_checked n t proof_bytes d = unless_refused (timed n t d) (λ e. with_proof n e proof_bytes)
+
+design_shows : (n : ℕ) (t : Option InTime) (d : Station) (proof_bytes : List ℕ) → IsAdmitted d → 1 ≤ n → IsInTimeInRange t → (design_checked n t proof_bytes d).status ≡ Done → ShowsTimed n t d (design_checked n t proof_bytes d)
+design_shows n t d proof_bytes good some range done =
+    let put = passed (timed n t d) (λ e. with_proof n e proof_bytes) (time_refuses n t d) (ap is_verdict done) in
+    let shows = proven_shows n put.read proof_bytes (timed_admitted n t d put.read range good put.is) some (ap (λ (a : ReplySeen). a.status) (sym put.comes) ∙ done) in
+    record { design = put.read; is = put.is; shows = subst (Shows n put.read) (sym put.comes) shows }
+
+pub checked_shows : (n : ℕ) (t : Option InTime) (design_bytes proof_bytes : List ℕ) (d : Station) → 1 ≤ n → IsInTimeInRange t → design_of design_bytes ≡ Ok d → (check_reply n t design_bytes proof_bytes).status ≡ Done → ShowsTimed n t d (check_reply n t design_bytes proof_bytes)
+checked_shows n t design_bytes proof_bytes d some range spells done =
+    let one = passed (within_limit file.Design design_bytes) (λ text. unless_refused (design_in text) (design_checked n t proof_bytes)) (long_refuses file.Design design_bytes) (ap is_verdict done) in
+    let two = passed (design_in one.read) (design_checked n t proof_bytes) (design_refuses (and_then (design_of one.read) with_routes)) one.verdict in
     let text : design_bytes ≡ one.read = file_is file.Design design_bytes one.read one.is in
-    let same : d ≡ two.read = read-same one.read d two.read (ap design_of (sym text) ∙ spells) two.is in
-    let all : check_reply n design_bytes proof_bytes ≡ checked_against two.read n three.read = one.comes ∙ (two.comes ∙ (three.comes ∙ four.comes)) in
-    let good : IsAdmitted two.read = subst IsAdmitted same (spelled_admitted design_bytes d spells) in
-    let shows = judged_shows n two.read three.read good some (ap (λ (a : ReplySeen). a.status) (sym all) ∙ done) in
-    record { steps = shows.steps; least = shows.least; within = shows.within; answer = all ∙ shows.answer; none = subst (λ (e : Station). IsInfeasible e shows.steps) (sym same) shows.none }
+    let same : two.read ≡ d = sym (read-same one.read d two.read (ap design_of (sym text) ∙ spells) two.is) in
+    let all : check_reply n t design_bytes proof_bytes ≡ design_checked n t proof_bytes d = one.comes ∙ two.comes ∙ ap (design_checked n t proof_bytes) same in
+    subst (ShowsTimed n t d) (sym all) (design_shows n t d proof_bytes (spelled_admitted design_bytes d spells) some range (ap (λ (a : ReplySeen). a.status) (sym all) ∙ done))
+
+-- ---- withins that are there
+
+passes_with : (n : ℕ) (t : InTime) (d : Station) (has : Bool) → has ≡ true → (if has then Ok (put_in (Some t) d) else and_then (with_clauses Plain n d) lacks_within) ≡ Ok (put_in (Some t) d)
+passes_with n t d true e = refl
+passes_with n t d false e = absurd (cc)
+
+pub time_passes : (n : ℕ) (t : Option InTime) (d : Station) → HasWithin t d → timed n t d ≡ Ok (put_in t d)
+time_passes n None d has = refl
+time_passes n (Some t) d has = passes_with n t d (nat_le t.within (length d.withins)) (le-leb t.within (length d.withins) has)
+
+no_within_after : (d : Station) (clauses : Result Station ReplySeen) → clauses ≡ Ok d → and_then clauses lacks_within ≡ lacks_within d
+no_within_after d clauses e = ap (λ r. and_then r lacks_within) e
+
+no_clauses_before : (d : Station) (clauses : Result Station ReplySeen) (a : ReplySeen) → clauses ≡ Err a → and_then clauses lacks_within ≡ Err a
+no_clauses_before d clauses a e = ap (λ r. and_then r lacks_within) e
+
+-- what a design without the within is answered
+pub without_within : (n : ℕ) (t : InTime) (d : Station) → length d.withins < t.within → timed n (Some t) d ≡ and_then (with_clauses Plain n d) lacks_within
+without_within n t d few = rw (lt-leb t.within (length d.withins) few) refl
+
+pub within_wanted : (n : ℕ) (t : InTime) (d : Station) → length d.withins < t.within → with_clauses Plain n d ≡ Ok d → timed n (Some t) d ≡ lacks_within d
+within_wanted n t d few fits = without_within n t d few ∙ no_within_after d (with_clauses Plain n d) fits
+
+pub clauses_wanted : (n : ℕ) (t : InTime) (d : Station) (a : ReplySeen) → length d.withins < t.within → with_clauses Plain n d ≡ Err a → timed n (Some t) d ≡ Err a
+clauses_wanted n t d a few e = without_within n t d few ∙ no_clauses_before d (with_clauses Plain n d) a e
 
 -- ---- the clauses of the design
 

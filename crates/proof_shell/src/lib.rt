@@ -4,4 +4,4 @@
 mod checking;
 mod texts;
 
-pub use checking::{check_reply, encode, make_reply};
+pub use checking::{check_reply, encode, make_reply, timed};

@@ -3,7 +3,8 @@ use Rattle.std.proofs.Common.{◌≡◌, ℕ, List, [], Option, Some, None, Resu
 use Rattle.verify_loop.specs.declared.outcome.Aim.{Aim}
 use Rattle.rail_words.specs.declared.request.SearchMode.{SearchMode}
 use Rattle.rail_base.specs.declared.station.Station.{Station}
-use Rattle.rail_words.specs.Requests.{RequestSeen, simulate, routes, verify, check, trial}
+use Rattle.rail_words.specs.declared.request.InTime.{InTime}
+use Rattle.rail_words.specs.Requests.{RequestSeen, simulate, routes, verify, tightest, check, trial}
 use Rattle.verify_loop.specs.declared.outcome.Budgets.{Budgets}
 use Rattle.verify_loop.specs.declared.outcome.Outcome.{Outcome}
 use Rattle.verify_loop.specs.declared.outcome.Outcome.TheVariants as outcome
@@ -17,10 +18,11 @@ use Rattle.cli_shell.specs.declared.ending.Ending.TheVariants as ending
 use Rattle.cli_shell.specs.Texts.{usage_line, limit_of}
 use Rattle.cli_shell.specs.Answers.{ReplySeen, one_line, within_limit, design_in, unless_refused, simulation_reply, routes_reply}
 use Rattle.proof_shell.specs.Answers.{check_reply}
-use Rattle.rail_cli.specs.Answers.{searched_in, aim_of, search_reply, answer_given}
+use Rattle.rail_cli.specs.Ended.{plan_ended, none_ended}
+use Rattle.rail_cli.specs.Answers.{budgets_of, searched_in, aim_of, search_reply, answer_given}
 use Rattle.cli_shell.specs.Replies.{reply_seen, ReadsOrEnds, Replies}
 use Rattle.rail_cli.specs.Replies.{RepliesSome, RepliesTrial}
-use Rattle.rail_cli.specs.Searches.{budgets_of, EndsSearch, FindsGiven}
+use Rattle.rail_cli.specs.Searches.{EndsSearch, FindsGiven}
 use Rattle.cli_shell.specs.Prints.{Prints}
 use Rattle.rail_cli.specs.Prints.{PrintsSome}
 use Rattle.cli_shell.proofs.Deciding.{prints_answer}
@@ -35,16 +37,17 @@ module _ (r : Result Reply Ending) where
   wanting asked is = record {
     design_bytes = [];
     other_bytes = [];
-    found = outcome.Memory;
+    found = none_ended;
     finds = never asked;
-    replies = subst (λ (x : Result Reply Ending). Replies x (answer_given [] [] outcome.Memory (Some asked))) (sym is) tt;
+    replies = subst (λ (x : Result Reply Ending). Replies x (answer_given [] [] none_ended (Some asked))) (sym is) tt;
   }
     where
-      never : (asked : RequestSeen) → FindsGiven [] (Some asked) outcome.Memory
+      never : (asked : RequestSeen) → FindsGiven [] (Some asked) none_ended
       never (simulate design plan) = tt
       never (routes design) = tt
       never (verify n conflicts ticks mode design proof) = λ d parsed. (tt, tt)
-      never (check n design proof) = tt
+      never (tightest n conflicts ticks w bounds design proof) = λ d parsed. (tt, tt)
+      never (check n in_time design proof) = tt
       never (trial seed size) = (tt, tt)
 
 -- ---- searches
@@ -62,7 +65,7 @@ module _ (r : Result Reply Ending) (n : ℕ) (mode : SearchMode) (b : Budgets) (
 
   -- memory was wanting
   wanting_so : (a : List ℕ) → Replies r (search_reply here n b.conflicts b.ticks a outcome.Memory) → SearchedSo
-  wanting_so a h = record { design_bytes = a; other_bytes = []; found = outcome.Memory; finds = λ d parsed. (tt, tt); replies = h }
+  wanting_so a h = record { design_bytes = a; other_bytes = []; found = none_ended; finds = λ d parsed. (tt, tt); replies = h }
 
   pub unsearched : (e : Ending) → r ≡ Err e → (bytes : List ℕ) × ReadsOrEnds (λ (v : Vec ℕ Global). v.items) (Err e) (within_limit file.Design bytes) → SearchedSo
   unsearched e is h = wanting_so h.0 (ends_so r (λ (v : Vec ℕ Global). v.items) e _ (searched_text here n b.conflicts b.ticks outcome.Memory) _ is h.1 refl)
@@ -83,7 +86,7 @@ module _ (r : Result Reply Ending) (n : ℕ) (mode : SearchMode) (b : Budgets) (
     all_searched d room reads h = record {
       design_bytes = first.0;
       other_bytes = [];
-      found = h.0;
+      found = plan_ended h.0;
       finds = ends_search d h.0 reads (within_budgets here d n b h.0 room h.1) h.2;
       replies = subst (Replies r) (sym (read_so here n b.conflicts b.ticks first.0 h.0 text first.1 d reads)) h.3;
     }
@@ -92,15 +95,15 @@ module _ (r : Result Reply Ending) (n : ℕ) (mode : SearchMode) (b : Budgets) (
 
 -- the answer to a simulation, for some bytes of its files
 pub some_simulation : (r : Result Reply Ending) (design plan : List ℕ) → (a : List ℕ) × (b : List ℕ) × Replies r (simulation_reply a b) → RepliesSome r (Some (simulate design plan))
-some_simulation r design plan h = record { design_bytes = h.0; other_bytes = h.1; found = outcome.Memory; finds = tt; replies = h.2 }
+some_simulation r design plan h = record { design_bytes = h.0; other_bytes = h.1; found = none_ended; finds = tt; replies = h.2 }
 
 -- to a request for routes
 pub some_routes : (r : Result Reply Ending) (design : List ℕ) → (a : List ℕ) × Replies r (routes_reply a) → RepliesSome r (Some (routes design))
-some_routes r design h = record { design_bytes = h.0; other_bytes = []; found = outcome.Memory; finds = tt; replies = h.1 }
+some_routes r design h = record { design_bytes = h.0; other_bytes = []; found = none_ended; finds = tt; replies = h.1 }
 
 -- to a check
-pub some_check : (r : Result Reply Ending) (n : ℕ) (design proof : List ℕ) → (a : List ℕ) × (b : List ℕ) × Replies r (check_reply n a b) → RepliesSome r (Some (check n design proof))
-some_check r n design proof h = record { design_bytes = h.0; other_bytes = h.1; found = outcome.Memory; finds = tt; replies = h.2 }
+pub some_check : (r : Result Reply Ending) (n : ℕ) (in_time : Option InTime) (design proof : List ℕ) → (a : List ℕ) × (b : List ℕ) × Replies r (check_reply n in_time a b) → RepliesSome r (Some (check n in_time design proof))
+some_check r n in_time design proof h = record { design_bytes = h.0; other_bytes = h.1; found = none_ended; finds = tt; replies = h.2 }
 
 -- what is asked
 pub asks_some : (r : Result Reply Ending) (a b : Option RequestSeen) → a ≡ b → RepliesSome r b → RepliesSome r a
@@ -113,13 +116,13 @@ pub some_search : (r : Result Reply Ending) (n conflicts ticks : ℕ) (mode : Se
 some_search r n conflicts ticks mode b design proof within h = subst (λ (x : Budgets). RepliesSome r (Some (verify n x.conflicts x.ticks mode design proof))) within h
 
 pub some_trial : (r : Result Reply Ending) (seed size : ℕ) → RepliesTrial r seed size → RepliesSome r (Some (trial seed size))
-some_trial r seed size h = record { design_bytes = []; other_bytes = []; found = h.0; finds = h.1; replies = h.2 }
+some_trial r seed size h = record { design_bytes = []; other_bytes = []; found = plan_ended h.0; finds = h.1; replies = h.2 }
 
 pub some_usage : (r : Result Reply Ending) (reply : Reply) → r ≡ Ok reply → reply_seen reply ≡ one_line statuses.Usage usage_line → RepliesSome r None
 some_usage r reply is seen = record {
   design_bytes = [];
   other_bytes = [];
-  found = outcome.Memory;
+  found = none_ended;
   finds = tt;
   replies = subst (λ (x : Result Reply Ending). Replies x (one_line statuses.Usage usage_line)) (sym is) (sym seen);
 }
@@ -128,7 +131,7 @@ pub some_wanting : (r : Result Reply Ending) (asked : Option RequestSeen) → r 
 some_wanting r None is = record {
   design_bytes = [];
   other_bytes = [];
-  found = outcome.Memory;
+  found = none_ended;
   finds = tt;
   replies = subst (λ (x : Result Reply Ending). Replies x (one_line statuses.Usage usage_line)) (sym is) tt;
 }

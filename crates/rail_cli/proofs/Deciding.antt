@@ -1,13 +1,13 @@
 -- Simulations in which nothing is refused.
-use Rattle.std.proofs.Common.{◌≡◌, ℕ, true, List, Option, Some, Result, Ok, Err, IfOk, ap, sym, ◌∙◌, subst}
+use Rattle.std.proofs.Common.{◌≡◌, ℕ, Bool, true, List, Option, Some, Result, Ok, Err, IfOk, ap, sym, ◌∙◌, subst}
 use Rattle.std.specs.List.{concat}
 use Rattle.rail_base.specs.declared.station.Station.{Station}
 use Rattle.rail_base.specs.declared.plan.Command.{Command}
 use Rattle.rail_outside.specs.Files.{Files}
 use Rattle.rail_outside.specs.Growth.{grown}
 use Rattle.rail_words.specs.declared.request.SearchMode.{SearchMode}
-use Rattle.rail_words.specs.Requests.{RequestSeen, simulate, routes, verify, check, trial, request_of}
-use Rattle.verify_loop.specs.declared.outcome.Outcome.{Outcome}
+use Rattle.rail_words.specs.declared.request.InTime.{InTime}
+use Rattle.rail_words.specs.Requests.{RequestSeen, simulate, routes, verify, tightest, check, trial, request_of}
 use Rattle.cli_shell.specs.declared.status.Status.{Status}
 use Rattle.cli_shell.specs.declared.reply.Reply.{Reply}
 use Rattle.cli_shell.specs.declared.ending.Ending.{Ending}
@@ -15,6 +15,7 @@ use Rattle.cli_shell.specs.declared.ending.Ending.TheVariants as ending
 use Rattle.cli_shell.specs.declared.input.InputFile.TheVariants as file
 use Rattle.cli_shell.specs.Statuses.{is_answered, is_refusal}
 use Rattle.cli_shell.specs.Answers.{ReplySeen, design_in, plan_or_answer, plan_in, verdict_status, verdict_reply, simulation_reply}
+use Rattle.rail_cli.specs.Ended.{Ended}
 use Rattle.rail_cli.specs.Answers.{answer_to, answer_of}
 use Rattle.cli_shell.specs.Shows.{verdict_at_horizon}
 use Rattle.cli_shell.specs.Replies.{reply_seen, RefusesFile, OnReply, Replies, Decides}
@@ -38,7 +39,7 @@ module _ (files : Files) (words : List (List ℕ)) (d : Station) (plan : List (L
       planned_so (files s.design_name) (files s.plan_name) (files s.design_name) (file_fits file.Design (files s.design_name) s.short_design) d reads_design (files s.plan_name) (file_fits file.Plan (files s.plan_name) s.short_plan)
       ∙ answered_next (plan_in d (files s.plan_name)) plan (λ p. verdict_reply d (verdict_at_horizon d p)) reads_plan
 
-  pub answered_so : (found : Outcome) → answer_of files found words ≡ verdict_reply d (verdict_at_horizon d plan)
+  pub answered_so : (found : Ended) → answer_of files found words ≡ verdict_reply d (verdict_at_horizon d plan)
   answered_so found = ap (answer_to files found) s.asked ∙ simulated_so
 
   -- the request names its files
@@ -72,14 +73,17 @@ routes_only files words design_name reply asked = λ d plan s. (let clash = sym 
 verify_only : (files : Files) (words : List (List ℕ)) (n conflicts ticks : ℕ) (mode : SearchMode) (design_name proof_name : List ℕ) (reply : Reply) → request_of words ≡ Some (verify n conflicts ticks mode design_name proof_name) → DoneWhereFeasible files words reply.status
 verify_only files words n conflicts ticks mode design_name proof_name reply asked = λ d plan s. (let clash = sym s.asked ∙ asked in absurd (cc))
 
-check_only : (files : Files) (words : List (List ℕ)) (n : ℕ) (design_name proof_name : List ℕ) (reply : Reply) → request_of words ≡ Some (check n design_name proof_name) → DoneWhereFeasible files words reply.status
-check_only files words n design_name proof_name reply asked = λ d plan s. (let clash = sym s.asked ∙ asked in absurd (cc))
+tightest_only : (files : Files) (words : List (List ℕ)) (n conflicts ticks w : ℕ) (bounds : Bool) (design_name proof_name : List ℕ) (reply : Reply) → request_of words ≡ Some (tightest n conflicts ticks w bounds design_name proof_name) → DoneWhereFeasible files words reply.status
+tightest_only files words n conflicts ticks w bounds design_name proof_name reply asked = λ d plan s. (let clash = sym s.asked ∙ asked in absurd (cc))
+
+check_only : (files : Files) (words : List (List ℕ)) (n : ℕ) (in_time : Option InTime) (design_name proof_name : List ℕ) (reply : Reply) → request_of words ≡ Some (check n in_time design_name proof_name) → DoneWhereFeasible files words reply.status
+check_only files words n in_time design_name proof_name reply asked = λ d plan s. (let clash = sym s.asked ∙ asked in absurd (cc))
 
 trial_only : (files : Files) (words : List (List ℕ)) (seed size : ℕ) (reply : Reply) → request_of words ≡ Some (trial seed size) → DoneWhereFeasible files words reply.status
 trial_only files words seed size reply asked = λ d plan s. (let clash = sym s.asked ∙ asked in absurd (cc))
 
 -- the reply to a request says 0 exactly where the plan is feasible
-pub done_where_feasible : (files : Files) (found : Outcome) (words : List (List ℕ)) (asked : RequestSeen) (r : Result Reply Ending) → request_of words ≡ Some asked
+pub done_where_feasible : (files : Files) (found : Ended) (words : List (List ℕ)) (asked : RequestSeen) (r : Result Reply Ending) → request_of words ≡ Some asked
     → Replies r (answer_to files found (Some asked)) → RefusesFile r → DecidesRequest files asked r
     → OnReply r (λ reply. DoneWhereFeasible files words reply.status)
 done_where_feasible files found words (simulate design_name plan_name) (Ok reply) asked replies refuses decides = λ d plan s. done_here files words d plan s design_name plan_name asked reply.status decides
@@ -94,17 +98,21 @@ done_where_feasible files found words (verify n conflicts ticks mode design_name
 done_where_feasible files found words (verify n conflicts ticks mode design_name proof_name) (Err (ending.RefusedWith reply)) asked replies refuses decides = verify_only files words n conflicts ticks mode design_name proof_name reply asked
 done_where_feasible files found words (verify n conflicts ticks mode design_name proof_name) (Err ending.Memory) asked replies refuses decides = tt
 done_where_feasible files found words (verify n conflicts ticks mode design_name proof_name) (Err ending.ShelfFault) asked replies refuses decides = tt
-done_where_feasible files found words (check n design_name proof_name) (Ok reply) asked replies refuses decides = check_only files words n design_name proof_name reply asked
-done_where_feasible files found words (check n design_name proof_name) (Err (ending.RefusedWith reply)) asked replies refuses decides = check_only files words n design_name proof_name reply asked
-done_where_feasible files found words (check n design_name proof_name) (Err ending.Memory) asked replies refuses decides = tt
-done_where_feasible files found words (check n design_name proof_name) (Err ending.ShelfFault) asked replies refuses decides = tt
+done_where_feasible files found words (tightest n conflicts ticks w bounds design_name proof_name) (Ok reply) asked replies refuses decides = tightest_only files words n conflicts ticks w bounds design_name proof_name reply asked
+done_where_feasible files found words (tightest n conflicts ticks w bounds design_name proof_name) (Err (ending.RefusedWith reply)) asked replies refuses decides = tightest_only files words n conflicts ticks w bounds design_name proof_name reply asked
+done_where_feasible files found words (tightest n conflicts ticks w bounds design_name proof_name) (Err ending.Memory) asked replies refuses decides = tt
+done_where_feasible files found words (tightest n conflicts ticks w bounds design_name proof_name) (Err ending.ShelfFault) asked replies refuses decides = tt
+done_where_feasible files found words (check n in_time design_name proof_name) (Ok reply) asked replies refuses decides = check_only files words n in_time design_name proof_name reply asked
+done_where_feasible files found words (check n in_time design_name proof_name) (Err (ending.RefusedWith reply)) asked replies refuses decides = check_only files words n in_time design_name proof_name reply asked
+done_where_feasible files found words (check n in_time design_name proof_name) (Err ending.Memory) asked replies refuses decides = tt
+done_where_feasible files found words (check n in_time design_name proof_name) (Err ending.ShelfFault) asked replies refuses decides = tt
 done_where_feasible files found words (trial seed size) (Ok reply) asked replies refuses decides = trial_only files words seed size reply asked
 done_where_feasible files found words (trial seed size) (Err (ending.RefusedWith reply)) asked replies refuses decides = trial_only files words seed size reply asked
 done_where_feasible files found words (trial seed size) (Err ending.Memory) asked replies refuses decides = tt
 done_where_feasible files found words (trial seed size) (Err ending.ShelfFault) asked replies refuses decides = tt
 
 -- what is printed then
-pub tells_feasible : (files : Files) (found : Outcome) (words : List (List ℕ)) (d : Station) (plan : List (List Command)) (t : Status) (text new_text : Option (List ℕ)) (pieces new_pieces : Option (List (List ℕ)))
+pub tells_feasible : (files : Files) (found : Ended) (words : List (List ℕ)) (d : Station) (plan : List (List Command)) (t : Status) (text new_text : Option (List ℕ)) (pieces new_pieces : Option (List (List ℕ)))
     → Prints (answer_of files found words) t text new_text pieces new_pieces → DoneWhereFeasible files words t → Simulates files words d plan → is_answered t ≡ true → ReportsFeasible d plan t text new_text
 tells_feasible files found words d plan t text new_text pieces new_pieces prints exact s answered =
     let so = answered_so files words d plan s found in
@@ -121,7 +129,7 @@ tells_feasible files found words d plan t text new_text pieces new_pieces prints
     }
 
 -- what is printed of it
-pub tells_of_reply : (files : Files) (found : Outcome) (words : List (List ℕ)) (d : Station) (plan : List (List Command)) (reply : Reply) (t : Status) (text new_text : Option (List ℕ)) (pieces new_pieces : Option (List (List ℕ)))
+pub tells_of_reply : (files : Files) (found : Ended) (words : List (List ℕ)) (d : Station) (plan : List (List Command)) (reply : Reply) (t : Status) (text new_text : Option (List ℕ)) (pieces new_pieces : Option (List (List ℕ)))
     → answer_of files found words ≡ reply_seen reply → DoneWhereFeasible files words reply.status → Prints (reply_seen reply) t text new_text pieces new_pieces → Simulates files words d plan → is_answered t ≡ true → ReportsFeasible d plan t text new_text
 tells_of_reply files found words d plan reply t text new_text pieces new_pieces replies done prints s answered =
     tells_feasible files found words d plan t text new_text pieces new_pieces (prints_answer (answer_of files found words) reply t text new_text pieces new_pieces replies prints) (subst (DoneWhereFeasible files words) (sym (prints.status answered)) done) s answered
@@ -138,9 +146,13 @@ decides_routes files asked design_name r is = subst (λ (a : RequestSeen). Decid
 pub decides_verify : (files : Files) (asked : RequestSeen) (n conflicts ticks : ℕ) (mode : SearchMode) (design_name proof_name : List ℕ) (r : Result Reply Ending) → asked ≡ verify n conflicts ticks mode design_name proof_name → DecidesRequest files asked r
 decides_verify files asked n conflicts ticks mode design_name proof_name r is = subst (λ (a : RequestSeen). DecidesRequest files a r) (sym is) tt
 
+-- nor one for the least time
+pub decides_tightest : (files : Files) (asked : RequestSeen) (n conflicts ticks w : ℕ) (bounds : Bool) (design_name proof_name : List ℕ) (r : Result Reply Ending) → asked ≡ tightest n conflicts ticks w bounds design_name proof_name → DecidesRequest files asked r
+decides_tightest files asked n conflicts ticks w bounds design_name proof_name r is = subst (λ (a : RequestSeen). DecidesRequest files a r) (sym is) tt
+
 -- nor one for a check
-pub decides_check : (files : Files) (asked : RequestSeen) (n : ℕ) (design_name proof_name : List ℕ) (r : Result Reply Ending) → asked ≡ check n design_name proof_name → DecidesRequest files asked r
-decides_check files asked n design_name proof_name r is = subst (λ (a : RequestSeen). DecidesRequest files a r) (sym is) tt
+pub decides_check : (files : Files) (asked : RequestSeen) (n : ℕ) (in_time : Option InTime) (design_name proof_name : List ℕ) (r : Result Reply Ending) → asked ≡ check n in_time design_name proof_name → DecidesRequest files asked r
+decides_check files asked n in_time design_name proof_name r is = subst (λ (a : RequestSeen). DecidesRequest files a r) (sym is) tt
 
 -- nor one for a trial
 pub decides_trial : (files : Files) (asked : RequestSeen) (seed size : ℕ) (r : Result Reply Ending) → asked ≡ trial seed size → DecidesRequest files asked r

@@ -5,9 +5,12 @@ use Rattle.std.proofs.lemmas.List.{append-nil}
 use Rattle.infra_reader.specs.Design.{design_of}
 use Rattle.clause_spec.specs.Clauses.{past_limit}
 use Rattle.verify_loop.specs.declared.outcome.Aim.{Aim}
+use Rattle.verify_loop.specs.declared.least_time.Tightest.{Tightest}
+use Rattle.verify_loop.specs.Lessening.{untimed}
+use Rattle.verify_loop.specs.Quests.{by_itself}
+use Rattle.verify_loop.specs.Tightening.{FitsTightest, IsTightest, base_for}
 use Rattle.rail_words.specs.declared.request.SearchMode.{SearchMode}
 use Rattle.rail_words.specs.declared.request.SearchMode.TheVariants as by
-use Rattle.proof_judge.specs.Judged.{names_within}
 use Rattle.proof_judge.proofs.Sound.{yes_infeasible}
 use Rattle.infra_reader.proofs.Reading.{spelled_admitted}
 use Rattle.rail_base.specs.Admission.{is_admitted}
@@ -20,7 +23,8 @@ use Rattle.rail_base.specs.declared.history.Verdict.{Verdict}
 use Rattle.rail_outside.specs.Files.{Files}
 use Rattle.rail_outside.specs.Growth.{grown}
 use Rattle.rail_spec.specs.Feasible.{IsInfeasible, IsFeasible}
-use Rattle.rail_words.specs.Requests.{RequestSeen, simulate, routes, verify, check, trial, request_of, IsRequestInRange}
+use Rattle.rail_words.specs.declared.request.InTime.{InTime}
+use Rattle.rail_words.specs.Requests.{RequestSeen, simulate, routes, verify, tightest, check, trial, request_of, IsRequestInRange}
 use Rattle.rail_words.proofs.Ranges.{requests_in_range}
 use Rattle.verify_loop.specs.declared.outcome.Budgets.{Budgets}
 use Rattle.verify_loop.specs.declared.outcome.Outcome.{Outcome}
@@ -38,11 +42,13 @@ use Rattle.proof_shell.specs.Texts.{yes_line}
 use Rattle.rail_cli.specs.Texts.{infeasible_line}
 use Rattle.cli_shell.specs.Answers.{ReplySeen, one_line, within_limit, with_routes, and_then, design_in, unless_refused}
 use Rattle.proof_shell.specs.Answers.{with_clauses, for_file, reply_for, checked_against, with_proof, check_reply}
-use Rattle.rail_cli.specs.Answers.{reply_for_plan, reply_for_outcome, searched_in, aim_of, search_reply, answer_to, answer_of}
+use Rattle.rail_cli.specs.Ended.{Ended, plan_ended, none_ended}
+use Rattle.rail_cli.specs.Answers.{budgets_of, reply_for_plan, reply_for_outcome, searched_in, aim_of, search_reply, answer_to, answer_of}
 use Rattle.cli_shell.specs.Shows.{verdict_at_horizon}
 use Rattle.cli_shell.specs.Replies.{reply_seen, ReadsOrEnds, RefusesFile, OnlyFails, Replies}
 use Rattle.rail_cli.specs.Replies.{EndsIn, EndsWith, RepliesSo, RepliesTrial}
-use Rattle.rail_cli.specs.Searches.{budgets_of, Finds, ShowsNone, HoldsLog, HoldsProof, SearchLeaves, Leaves, Searches, ReportsPlan, ReportsNone}
+use Rattle.rail_cli.specs.Searches.{Finds, HoldsProof, SearchLeaves, Leaves, Searches, ReportsPlan, ReportsNone}
+use Rattle.rail_cli.specs.Stored.{ShowsNone, HoldsLog}
 use Rattle.rail_cli.specs.Checks.{Checks, ReportsInfeasible}
 use Rattle.cli_shell.specs.Simulations.{ReportsFeasible}
 use Rattle.rail_cli.specs.Simulations.{Simulates, DoneWhereFeasible}
@@ -59,31 +65,37 @@ use Rattle.cli_shell.proofs.Showing.{done_exactly, runs_safely, met_first}
 -- ---- what a search ends with
 
 -- want of memory is free
-pub may_want : (files : Files) (asked : Option RequestSeen) → EndsWith files asked outcome.Memory
+pub may_want : (files : Files) (asked : Option RequestSeen) → EndsWith files asked none_ended
 may_want files None = tt
 may_want files (Some (simulate design plan)) = tt
 may_want files (Some (routes design)) = tt
-may_want files (Some (check n design proof)) = tt
+may_want files (Some (check n in_time design proof)) = tt
+may_want files (Some (tightest n conflicts ticks w bounds design proof)) = inl refl
 may_want files (Some (trial seed size)) = (tt, tt)
 may_want files (Some (verify n conflicts ticks mode design proof)) = inl refl
 
 -- the outcome says what it is to say of the design in the file
-pub finds_so : (files : Files) (asked : Option RequestSeen) (found : Outcome) → EndsWith files asked found → Finds files asked found
+pub finds_so : (files : Files) (asked : Option RequestSeen) (found : Ended) → EndsWith files asked found → Finds files asked found
 finds_so files None found ends = tt
 finds_so files (Some (simulate design plan)) found ends = tt
 finds_so files (Some (routes design)) found ends = tt
-finds_so files (Some (check n design proof)) found ends = tt
+finds_so files (Some (check n in_time design proof)) found ends = tt
 finds_so files (Some (trial seed size)) found ends = ends
 finds_so files (Some (verify n conflicts ticks mode design proof)) found (inl same) = λ d parsed. subst (λ (o : Outcome). IsOutcome (aim_of mode) d n (budgets_of conflicts ticks) o × Fits (aim_of mode) d n o) (sym same) (tt, tt)
 finds_so files (Some (verify n conflicts ticks mode design proof)) found (inr e) = λ d parsed.
     (let one : Ok e.design.station ≡ Ok d = sym e.parsed ∙ parsed in
     let same : e.design.station ≡ d = cc in
-    subst (λ (x : Station). IsOutcome (aim_of mode) x n (budgets_of conflicts ticks) found × Fits (aim_of mode) x n found) same (e.says, e.fits))
+    subst (λ (x : Station). IsOutcome (aim_of mode) x n (budgets_of conflicts ticks) found.plan × Fits (aim_of mode) x n found.plan) same (e.says, e.fits))
+finds_so files (Some (tightest n conflicts ticks w bounds design proof)) found (inl same) = λ d parsed. subst (λ (o : Tightest). IsTightest (base_for bounds w) (untimed d w) w n (budgets_of conflicts ticks) o × FitsTightest (base_for bounds w) (untimed d w) w n o) (sym same) (tt, tt)
+finds_so files (Some (tightest n conflicts ticks w bounds design proof)) found (inr e) = λ d parsed.
+    (let one : Ok e.design.station ≡ Ok d = sym e.parsed ∙ parsed in
+    let same : e.design.station ≡ d = cc in
+    subst (λ (x : Station). IsTightest (base_for bounds w) (untimed x w) w n (budgets_of conflicts ticks) found.time × FitsTightest (base_for bounds w) (untimed x w) w n found.time) same (e.says, e.fits))
 
 -- ---- what is said of it
 
 -- a reply is no answer for want of memory
-never_memory : (r : Result Reply Ending) (want answer : ReplySeen) → want.status ≡ statuses.Memory → Replies r want → Replies r answer
+pub never_memory : (r : Result Reply Ending) (want answer : ReplySeen) → want.status ≡ statuses.Memory → Replies r want → Replies r answer
 never_memory (Ok reply) want answer is h = (let kind : is_answered statuses.Memory ≡ is_answered reply.status = ap is_answered (sym is) ∙ ap (λ (a : ReplySeen). is_answered a.status) h in let yes = reply.answered in absurd (cc))
 never_memory (Err (ending.RefusedWith reply)) want answer is h = (let kind : is_answered statuses.Memory ≡ is_answered reply.status = ap is_answered (sym is) ∙ ap (λ (a : ReplySeen). is_answered a.status) h in let yes = reply.answered in absurd (cc))
 never_memory (Err ending.Memory) want answer is h = tt
@@ -95,10 +107,10 @@ module _ (m : Aim) (d : Station) (n : ℕ) (b : Budgets) (make_reply : Outcome �
   abbrev unless_many : Outcome → ReplySeen
   unless_many found = unless_refused (with_clauses m.base n d) (λ same. make_reply found)
 
-  few_told : (found : Outcome) → past_limit 16000000 0 (first_clauses m d n) ≡ None → unless_many found ≡ make_reply found
+  few_told : (found : Outcome) → past_limit 16000000 0 (first_clauses (by_itself m d n) d n) ≡ None → unless_many found ≡ make_reply found
   few_told found few = answered_next (with_clauses m.base n d) d (λ same. make_reply found) (small_passes m.base n d few)
 
-  many_told : (literals : ℕ) → past_limit 16000000 0 (first_clauses m d n) ≡ Some literals → unless_many (outcome.TooLarge literals) ≡ make_reply (outcome.TooLarge literals)
+  many_told : (literals : ℕ) → past_limit 16000000 0 (first_clauses (by_itself m d n) d n) ≡ Some literals → unless_many (outcome.TooLarge literals) ≡ make_reply (outcome.TooLarge literals)
   many_told literals many = answered_refusal (with_clauses m.base n d) _ (λ same. make_reply (outcome.TooLarge literals)) (too_large_refused m.base n d literals many) ∙ sym (large literals)
 
   -- the reply to the end of a search is one to the search
@@ -107,9 +119,9 @@ module _ (m : Aim) (d : Station) (n : ℕ) (b : Budgets) (make_reply : Outcome �
   reply_unless_many r (outcome.TooLarge literals) says fits h = subst (Replies r) (sym (many_told literals says)) h
   reply_unless_many r (outcome.Plan plan verdict) says fits h = subst (Replies r) (sym (few_told (outcome.Plan plan verdict) fits)) h
   reply_unless_many r (outcome.Infeasible log) says fits h = subst (Replies r) (sym (few_told (outcome.Infeasible log) fits)) h
-  reply_unless_many r (outcome.ConflictsSpent log clause hints) says fits h = subst (Replies r) (sym (few_told (outcome.ConflictsSpent log clause hints) fits)) h
+  reply_unless_many r (outcome.ConflictsSpent log clause hints failed) says fits h = subst (Replies r) (sym (few_told (outcome.ConflictsSpent log clause hints failed) fits)) h
   reply_unless_many r (outcome.TicksSpent failed sum at_hand) says fits h = subst (Replies r) (sym (few_told (outcome.TicksSpent failed sum at_hand) fits)) h
-  reply_unless_many r (outcome.LogSpent log bytes next) says fits h = subst (Replies r) (sym (few_told (outcome.LogSpent log bytes next) fits)) h
+  reply_unless_many r (outcome.LogSpent log bytes next failed) says fits h = subst (Replies r) (sym (few_told (outcome.LogSpent log bytes next failed) fits)) h
 
 module _ (d : Station) (n : ℕ) (b : Budgets) where
   -- what is said, where the clauses are few
@@ -123,9 +135,9 @@ module _ (d : Station) (n : ℕ) (b : Budgets) where
   outcome_no_usage : (found : Outcome) → (outcome_told found).status ≡ statuses.Usage → ⊥
   outcome_no_usage (outcome.Plan plan verdict) e = cc
   outcome_no_usage (outcome.Infeasible log) e = cc
-  outcome_no_usage (outcome.ConflictsSpent log clause hints) e = cc
+  outcome_no_usage (outcome.ConflictsSpent log clause hints failed) e = cc
   outcome_no_usage (outcome.TicksSpent failed sum at_hand) e = cc
-  outcome_no_usage (outcome.LogSpent log bytes next) e = cc
+  outcome_no_usage (outcome.LogSpent log bytes next failed) e = cc
   outcome_no_usage (outcome.TooLarge literals) e = cc
   outcome_no_usage outcome.Memory e = cc
 
@@ -190,11 +202,11 @@ module _ (files : Files) (n : ℕ) (mode : SearchMode) (b : Budgets) (design pro
   here = aim_of mode
 
   pub unfetched_so : (view : Vec ℕ Global → List ℕ) (e : Ending) (r : Result Reply Ending) → r ≡ Err e → ReadsOrEnds view (Err e) (within_limit file.Design (files design)) → RepliesSo r files search_asked
-  unfetched_so view e r is h = subst (λ (x : Result Reply Ending). RepliesSo x files search_asked) (sym is) (outcome.Memory, inl refl, unfetched here n b.conflicts b.ticks (files design) outcome.Memory view e h)
+  unfetched_so view e r is h = subst (λ (x : Result Reply Ending). RepliesSo x files search_asked) (sym is) (none_ended, inl refl, unfetched here n b.conflicts b.ticks (files design) outcome.Memory view e h)
 
   module _ (text : List ℕ) (fits : within_limit file.Design (files design) ≡ Ok text) where
     pub unread_so : {X : Type 0} (view : X → Station) (e : Ending) (r : Result Reply Ending) → r ≡ Err e → ReadsOrEnds view (Err e) (design_in text) → RepliesSo r files search_asked
-    unread_so view e r is h = subst (λ (x : Result Reply Ending). RepliesSo x files search_asked) (sym is) (outcome.Memory, inl refl, unread here n b.conflicts b.ticks (files design) outcome.Memory text fits view e h)
+    unread_so view e r is h = subst (λ (x : Result Reply Ending). RepliesSo x files search_asked) (sym is) (none_ended, inl refl, unread here n b.conflicts b.ticks (files design) outcome.Memory text fits view e h)
 
     -- the name spells the design
     pub spelled_so : (d : Station) → design_in text ≡ Ok d → design_in (files design) ≡ Ok d
@@ -203,7 +215,7 @@ module _ (files : Files) (n : ℕ) (mode : SearchMode) (b : Budgets) (design pro
     pub ended_so : (d : Design) (r : Result Reply Ending) → b.log_bytes ≡ limit_of file.Proof → design_in text ≡ Ok d.station
         → RepliesBy r d.station n b here → RepliesSo r files search_asked
     ended_so d r room reads h = (
-      h.0,
+      plan_ended h.0,
       inr (record { design = d; parsed = spelled_so d.station reads; says = within_budgets here d.station n b h.0 room h.1; fits = h.2 }),
       subst (Replies r) (sym (read_so here n b.conflicts b.ticks (files design) h.0 text fits d.station reads)) h.3,
     )
@@ -211,28 +223,28 @@ module _ (files : Files) (n : ℕ) (mode : SearchMode) (b : Budgets) (design pro
 -- ---- the replies to a request
 
 module _ (r : Result Reply Ending) (files : Files) (asked : RequestSeen) where
-  pub simulate_so : (design plan : List ℕ) → asked ≡ simulate design plan → Replies r (answer_to files outcome.Memory (Some (simulate design plan))) → RepliesSo r files (Some asked)
-  simulate_so design plan is h = subst (λ (a : RequestSeen). RepliesSo r files (Some a)) (sym is) (outcome.Memory, tt, h)
+  pub simulate_so : (design plan : List ℕ) → asked ≡ simulate design plan → Replies r (answer_to files none_ended (Some (simulate design plan))) → RepliesSo r files (Some asked)
+  simulate_so design plan is h = subst (λ (a : RequestSeen). RepliesSo r files (Some a)) (sym is) (none_ended, tt, h)
 
-  pub routes_so : (design : List ℕ) → asked ≡ routes design → Replies r (answer_to files outcome.Memory (Some (routes design))) → RepliesSo r files (Some asked)
-  routes_so design is h = subst (λ (a : RequestSeen). RepliesSo r files (Some a)) (sym is) (outcome.Memory, tt, h)
+  pub routes_so : (design : List ℕ) → asked ≡ routes design → Replies r (answer_to files none_ended (Some (routes design))) → RepliesSo r files (Some asked)
+  routes_so design is h = subst (λ (a : RequestSeen). RepliesSo r files (Some a)) (sym is) (none_ended, tt, h)
 
-  pub check_so : (n : ℕ) (design proof : List ℕ) → asked ≡ check n design proof → Replies r (answer_to files outcome.Memory (Some (check n design proof))) → RepliesSo r files (Some asked)
-  check_so n design proof is h = subst (λ (a : RequestSeen). RepliesSo r files (Some a)) (sym is) (outcome.Memory, tt, h)
+  pub check_so : (n : ℕ) (in_time : Option InTime) (design proof : List ℕ) → asked ≡ check n in_time design proof → Replies r (answer_to files none_ended (Some (check n in_time design proof))) → RepliesSo r files (Some asked)
+  check_so n in_time design proof is h = subst (λ (a : RequestSeen). RepliesSo r files (Some a)) (sym is) (none_ended, tt, h)
 
   pub trial_so : (seed size : ℕ) → asked ≡ trial seed size → RepliesTrial r seed size → RepliesSo r files (Some asked)
-  trial_so seed size is h = subst (λ (a : RequestSeen). RepliesSo r files (Some a)) (sym is) h
+  trial_so seed size is h = subst (λ (a : RequestSeen). RepliesSo r files (Some a)) (sym is) (plan_ended h.0, h.1, h.2)
 
   pub verify_so : (n conflicts ticks : ℕ) (mode : SearchMode) (b : Budgets) (design proof : List ℕ) → b ≡ budgets_of conflicts ticks → asked ≡ verify n conflicts ticks mode design proof → RepliesSo r files (Some (verify n b.conflicts b.ticks mode design proof)) → RepliesSo r files (Some asked)
   verify_so n conflicts ticks mode b design proof within is h = subst (λ (a : RequestSeen). RepliesSo r files (Some a)) (sym is) (subst (λ (x : Budgets). RepliesSo r files (Some (verify n x.conflicts x.ticks mode design proof))) within h)
 
 -- the words ask for nothing
 pub usage_so : (files : Files) (asked : Option RequestSeen) (reply : Reply) → asked ≡ None → reply_seen reply ≡ one_line statuses.Usage usage_line → RepliesSo (Ok reply) files asked
-usage_so files asked reply is seen = subst (λ (a : Option RequestSeen). RepliesSo (Ok reply) files a) (sym is) (outcome.Memory, tt, sym seen)
+usage_so files asked reply is seen = subst (λ (a : Option RequestSeen). RepliesSo (Ok reply) files a) (sym is) (none_ended, tt, sym seen)
 
 -- memory was wanting
 pub want_so : (r : Result Reply Ending) (files : Files) (asked : Option RequestSeen) → r ≡ Err ending.Memory → RepliesSo r files asked
-want_so r files asked is = subst (λ (x : Result Reply Ending). RepliesSo x files asked) (sym is) (outcome.Memory, may_want files asked, tt)
+want_so r files asked is = subst (λ (x : Result Reply Ending). RepliesSo x files asked) (sym is) (none_ended, may_want files asked, tt)
 
 -- what a search was asked for, from a request that is in range
 pub search_steps : (asked : RequestSeen) (n conflicts ticks : ℕ) (mode : SearchMode) (design proof : List ℕ) → asked ≡ verify n conflicts ticks mode design proof → IsRequestInRange asked → (1 ≤ n) × (n ≤ 256)
@@ -246,7 +258,7 @@ told_so e reply files asked is h = subst (λ (x : Ending). RepliesSo (Err x) fil
 
 module _ (files : Files) (words : List (List ℕ)) (reply : Reply) (t : Status) (text new_text : Option (List ℕ)) (pieces new_pieces : Option (List (List ℕ))) where
   -- the reply was printed
-  pub run_so : RepliesSo (Ok reply) files (request_of words) → Prints (reply_seen reply) t text new_text pieces new_pieces → (found : Outcome) × Finds files (request_of words) found × Prints (answer_of files found words) t text new_text pieces new_pieces
+  pub run_so : RepliesSo (Ok reply) files (request_of words) → Prints (reply_seen reply) t text new_text pieces new_pieces → (found : Ended) × Finds files (request_of words) found × Prints (answer_of files found words) t text new_text pieces new_pieces
   run_so h prints = (h.0, finds_so files (request_of words) h.0 h.1, prints_answer (answer_of files h.0 words) reply t text new_text pieces new_pieces h.2 prints)
 
   -- of a check
@@ -269,7 +281,7 @@ was_searched : (m : Aim) (n conflicts ticks : ℕ) (design_bytes : List ℕ) (fo
 was_searched m n conflicts ticks design_bytes found d spells verdict =
     let one = passed (within_limit file.Design design_bytes) (with_text m n conflicts ticks design_bytes found) (long_refuses file.Design design_bytes) verdict in
     let two = passed (design_in one.read) (λ e. searched_in m e n conflicts ticks found) (design_refuses (and_then (design_of one.read) with_routes)) one.verdict in
-    let three = passed (with_clauses m.base n two.read) (λ same. reply_for_outcome two.read n conflicts ticks found) (clauses_refuse two.read (past_limit 16000000 0 (first_clauses m two.read n))) two.verdict in
+    let three = passed (with_clauses m.base n two.read) (λ same. reply_for_outcome two.read n conflicts ticks found) (clauses_refuse two.read (past_limit 16000000 0 (first_clauses (by_itself m two.read n) two.read n))) two.verdict in
     let text : design_bytes ≡ one.read = file_is file.Design design_bytes one.read one.is in
     let same : d ≡ two.read = read-same one.read d two.read (ap design_of (sym text) ∙ spells) two.is in
     record {
@@ -287,9 +299,9 @@ record PlanFound (found : Outcome) : Type 0 where
 plan_found : (d : Station) (n conflicts ticks : ℕ) (found : Outcome) → (reply_for_outcome d n conflicts ticks found).status ≡ statuses.Done → PlanFound found
 plan_found d n conflicts ticks (outcome.Plan plan verdict) e = record { plan = plan; verdict = verdict; is = refl }
 plan_found d n conflicts ticks (outcome.Infeasible log) e = absurd (cc)
-plan_found d n conflicts ticks (outcome.ConflictsSpent log clause hints) e = absurd (cc)
+plan_found d n conflicts ticks (outcome.ConflictsSpent log clause hints failed) e = absurd (cc)
 plan_found d n conflicts ticks (outcome.TicksSpent failed sum at_hand) e = absurd (cc)
-plan_found d n conflicts ticks (outcome.LogSpent log bytes next) e = absurd (cc)
+plan_found d n conflicts ticks (outcome.LogSpent log bytes next failed) e = absurd (cc)
 plan_found d n conflicts ticks (outcome.TooLarge literals) e = absurd (cc)
 plan_found d n conflicts ticks outcome.Memory e = absurd (cc)
 
@@ -297,14 +309,14 @@ plan_found d n conflicts ticks outcome.Memory e = absurd (cc)
 none_told : (d : Station) (n conflicts ticks : ℕ) (found : Outcome) → (reply_for_outcome d n conflicts ticks found).status ≡ statuses.No → reply_for_outcome d n conflicts ticks found ≡ one_line statuses.No (infeasible_line n)
 none_told d n conflicts ticks (outcome.Infeasible log) e = refl
 none_told d n conflicts ticks (outcome.Plan plan verdict) e = absurd (cc)
-none_told d n conflicts ticks (outcome.ConflictsSpent log clause hints) e = absurd (cc)
+none_told d n conflicts ticks (outcome.ConflictsSpent log clause hints failed) e = absurd (cc)
 none_told d n conflicts ticks (outcome.TicksSpent failed sum at_hand) e = absurd (cc)
-none_told d n conflicts ticks (outcome.LogSpent log bytes next) e = absurd (cc)
+none_told d n conflicts ticks (outcome.LogSpent log bytes next failed) e = absurd (cc)
 none_told d n conflicts ticks (outcome.TooLarge literals) e = absurd (cc)
 none_told d n conflicts ticks outcome.Memory e = absurd (cc)
 
 -- where a plan was found, memory was not wanting
-ended_in : (files : Files) (n conflicts ticks : ℕ) (mode : SearchMode) (design proof : List ℕ) (found : Outcome) → PlanFound found → EndsWith files (Some (verify n conflicts ticks mode design proof)) found → EndsIn files (aim_of mode) n conflicts ticks design found
+ended_in : (files : Files) (n conflicts ticks : ℕ) (mode : SearchMode) (design proof : List ℕ) (found : Ended) → PlanFound found.plan → EndsWith files (Some (verify n conflicts ticks mode design proof)) found → EndsIn files (aim_of mode) n conflicts ticks design found.plan
 ended_in files n conflicts ticks mode design proof found p (inl same) = (let clash = sym same ∙ p.is in absurd (cc))
 ended_in files n conflicts ticks mode design proof found p (inr e) = e
 
@@ -318,14 +330,14 @@ fewest_so by.Normal d k none other = none
 module _ (files : Files) (words : List (List ℕ)) (n : ℕ) (d : Station) (s : Searches files words n d) (reply : Reply) (t : Status) (text new_text : Option (List ℕ)) (pieces new_pieces : Option (List (List ℕ)))
     (replies : RepliesSo (Ok reply) files (request_of words)) (prints : Prints (reply_seen reply) t text new_text pieces new_pieces) where
   abbrev found_here : Outcome
-  found_here = replies.0
+  found_here = replies.0.plan
 
   -- how plans that fail were excluded
   abbrev by_here : Aim
   by_here = aim_of s.mode
 
   answer_here : reply_seen reply ≡ search_reply by_here n s.conflicts s.ticks (files s.design_name) found_here
-  answer_here = sym replies.2 ∙ ap (answer_to files found_here) s.asked
+  answer_here = sym replies.2 ∙ ap (answer_to files replies.0) s.asked
 
   searched_here : is_answered t ≡ true → is_verdict t ≡ true → Searched by_here n s.conflicts s.ticks (files s.design_name) found_here d
   searched_here answered verdict = was_searched by_here n s.conflicts s.ticks (files s.design_name) found_here d s.parses_design (ap (λ (a : ReplySeen). is_verdict a.status) (sym answer_here) ∙ (ap is_verdict (sym (prints.status answered)) ∙ verdict))
@@ -333,8 +345,8 @@ module _ (files : Files) (words : List (List ℕ)) (n : ℕ) (d : Station) (s : 
   told_here : is_answered t ≡ true → is_verdict t ≡ true → reply_seen reply ≡ reply_for_outcome d n s.conflicts s.ticks found_here
   told_here answered verdict = answer_here ∙ (searched_here answered verdict).answer
 
-  ends_here : EndsWith files (Some (verify n s.conflicts s.ticks s.mode s.design_name s.proof_name)) found_here
-  ends_here = subst (λ (a : Option RequestSeen). EndsWith files a found_here) s.asked replies.1
+  ends_here : EndsWith files (Some (verify n s.conflicts s.ticks s.mode s.design_name s.proof_name)) replies.0
+  ends_here = subst (λ (a : Option RequestSeen). EndsWith files a replies.0) s.asked replies.1
 
   -- status 0 says that there is a plan
   pub tells_plan : t ≡ statuses.Done → ReportsPlan s.mode n d text new_text
@@ -344,7 +356,7 @@ module _ (files : Files) (words : List (List ℕ)) (n : ℕ) (d : Station) (s : 
       let q = searched_here answered verdict in
       let reply_for = told_here answered verdict in
       let p = plan_found d n s.conflicts s.ticks found_here (ap (λ (a : ReplySeen). a.status) (sym reply_for) ∙ (sym (prints.status answered) ∙ done)) in
-      let e = ended_in files n s.conflicts s.ticks s.mode s.design_name s.proof_name found_here p ends_here in
+      let e = ended_in files n s.conflicts s.ticks s.mode s.design_name s.proof_name replies.0 p ends_here in
       let one : Ok e.design.station ≡ Ok d = sym e.parsed ∙ q.reads in
       let same : e.design.station ≡ d = cc in
       let good = admitted d (subst (λ (x : Station). is_admitted x ≡ true) same e.design.admitted) in
@@ -361,7 +373,7 @@ module _ (files : Files) (words : List (List ℕ)) (n : ℕ) (d : Station) (s : 
       }
 
   -- what a check says of the stored log
-  log_passes : Searched by_here n s.conflicts s.ticks (files s.design_name) found_here d → (log : List ℕ) → ShowsNone d n log → check_reply n (files s.design_name) log ≡ one_line statuses.Done (yes_line n)
+  log_passes : Searched by_here n s.conflicts s.ticks (files s.design_name) found_here d → (log : List ℕ) → ShowsNone d n log → check_reply n None (files s.design_name) log ≡ one_line statuses.Done (yes_line n)
   log_passes q log proves =
       answered_next (within_limit file.Design (files s.design_name)) (files s.design_name) (λ bytes. unless_refused (design_in bytes) (λ e. with_proof n e log)) q.fits
       ∙ (answered_next (design_in (files s.design_name)) d (λ e. with_proof n e log) q.reads
@@ -389,10 +401,3 @@ module _ (files : Files) (words : List (List ℕ)) (n : ℕ) (d : Station) (s : 
         stored = log;
         passes = log_passes q log.log log.proves;
       }
-
--- what is looked for names no within
-pub aim_named : (mode : SearchMode) (d : Station) → names_within (aim_of mode).base d ≡ true
-aim_named by.Plain d = refl
-aim_named by.Bounds d = refl
-aim_named by.Any d = refl
-aim_named by.Normal d = refl

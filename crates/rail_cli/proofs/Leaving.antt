@@ -1,15 +1,19 @@
 -- What a run leaves on the shelf.
-use Rattle.std.proofs.Common.{◌≡◌, ◌≤◌, ◌⊎◌, ℕ, true, List, Option, None, Some, Result, Ok, Err, Vec, Global, refl, ap, sym, ◌∙◌, subst, inl, inr}
+use Rattle.std.proofs.Common.{◌≡◌, ◌≤◌, ◌⊎◌, ℕ, Bool, true, List, Option, None, Some, Result, Ok, Err, Vec, Global, refl, ap, sym, ◌∙◌, subst, inl, inr}
 use Rattle.verify_loop.specs.declared.outcome.Aim.{Aim}
 use Rattle.rail_base.specs.declared.station.Station.{Station}
 use Rattle.rail_base.specs.Admitted.{IsAdmitted}
 use Rattle.rail_outside.specs.Files.{Files}
 use Rattle.rail_words.specs.declared.request.SearchMode.{SearchMode}
-use Rattle.rail_words.specs.Requests.{RequestSeen, simulate, routes, verify, check, trial}
+use Rattle.rail_words.specs.declared.request.SearchMode.TheVariants as by
+use Rattle.rail_words.specs.declared.request.InTime.{InTime}
+use Rattle.rail_words.specs.Requests.{RequestSeen, simulate, routes, verify, tightest, check, trial}
 use Rattle.verify_loop.specs.declared.outcome.Budgets.{Budgets}
 use Rattle.verify_loop.specs.declared.outcome.Outcome.{Outcome}
 use Rattle.verify_loop.specs.declared.outcome.Outcome.TheVariants as outcome
 use Rattle.verify_loop.specs.Outcomes.{IsOutcome}
+use Rattle.verify_loop.specs.Quests.{by_itself}
+use Rattle.proof_judge.specs.Judged.{names_within}
 use Rattle.cli_shell.specs.declared.status.Status.{Status}
 use Rattle.cli_shell.specs.declared.status.Status.TheVariants.{Done, No, Usage, DesignRefused, PlanRefused, ConflictsSpent, Memory, ShelfFault, SinkFault, TicksSpent, LogSpent, TooLong}
 use Rattle.cli_shell.specs.declared.input.InputFile.TheVariants as file
@@ -19,12 +23,21 @@ use Rattle.cli_shell.specs.declared.ending.Ending.TheVariants as ending
 use Rattle.cli_shell.specs.Statuses.{is_answered, is_refusal}
 use Rattle.cli_shell.specs.Texts.{limit_of}
 use Rattle.cli_shell.specs.Answers.{ReplySeen, design_in}
-use Rattle.rail_cli.specs.Answers.{reply_for_outcome}
+use Rattle.rail_cli.specs.Answers.{aim_of, reply_for_outcome}
 use Rattle.cli_shell.specs.Replies.{reply_seen, RefusesFile, OnEnd}
 use Rattle.rail_cli.specs.Replies.{StoresFile, KeepsLog}
-use Rattle.rail_cli.specs.Searches.{ShowsNone, HoldsProof, SearchLeaves, Leaves}
-use Rattle.proof_judge.specs.Judged.{names_within}
+use Rattle.rail_cli.specs.Searches.{HoldsProof, SearchLeaves, Leaves}
+use Rattle.rail_cli.specs.Stored.{ShowsNone}
+use Rattle.rail_cli.specs.Times.{TimeLeaves}
 use Rattle.rail_cli.proofs.Logs.{few_for_log}
+use Rattle.rail_cli.proofs.TimeLeaving.{printed_times}
+
+-- the base of each search names no within that the design lacks
+pub modes_named : (mode : SearchMode) (d : Station) → names_within (aim_of mode).base d ≡ true
+modes_named by.Plain d = refl
+modes_named by.Bounds d = refl
+modes_named by.Any d = refl
+modes_named by.Normal d = refl
 
 -- ---- a search
 
@@ -88,10 +101,10 @@ module _ (files : Files) (n : ℕ) (design proof : List ℕ) (known_files : Opti
       go ending.ShelfFault refuses = inr same
 
   -- what a search in the design in the file leaves
-  module _ (m : Aim) (d : Station) (good : IsAdmitted d) (most : n ≤ 256) (named : names_within m.base d ≡ true) (parsed : design_in (files design) ≡ Ok d) (b : Budgets) (room : b.log_bytes ≡ limit_of file.Proof) where
+  module _ (m : Aim) (d : Station) (named : names_within m.base d ≡ true) (good : IsAdmitted d) (most : n ≤ 256) (parsed : design_in (files design) ≡ Ok d) (b : Budgets) (room : b.log_bytes ≡ limit_of file.Proof) where
     -- the log of a search shows that there is no plan
     log_shows : (log : Vec ℕ Global) → IsOutcome m d n b (outcome.Infeasible log) → ShowsNone d n log.items
-    log_shows log says = record { within_limit = rw (← room) says.2; few = few_for_log m d n b log.items good most named says.1; shows = says.1.accepted }
+    log_shows log says = record { within_limit = rw (← room) says.2; few = few_for_log (by_itself m d n) d n b log.items good most named says.1; shows = says.1.accepted }
 
     -- it was not stored
     unstored_leaves : (e : Ending) (log : List ℕ) → ShowsNone d n log → StoresFile {X = Unit {0}} (Err e) files proof log known_files → OnEnd (Err e) left
@@ -102,9 +115,9 @@ module _ (files : Files) (n : ℕ) (design proof : List ℕ) (known_files : Opti
     unkept_leaves : (e : Ending) (found : Outcome) → IsOutcome m d n b found → KeepsLog {X = Unit {0}} (Err e) files proof found known_files → OnEnd (Err e) left
     unkept_leaves e (outcome.Infeasible log) says h = unstored_leaves e log.items (log_shows log says) h
     unkept_leaves e (outcome.Plan plan verdict) says h = absurd (let no = h.0 in cc)
-    unkept_leaves e (outcome.ConflictsSpent log clause hints) says h = absurd (let no = h.0 in cc)
+    unkept_leaves e (outcome.ConflictsSpent log clause hints failed) says h = absurd (let no = h.0 in cc)
     unkept_leaves e (outcome.TicksSpent failed sum at_hand) says h = absurd (let no = h.0 in cc)
-    unkept_leaves e (outcome.LogSpent log bytes next) says h = absurd (let no = h.0 in cc)
+    unkept_leaves e (outcome.LogSpent log bytes next failed) says h = absurd (let no = h.0 in cc)
     unkept_leaves e (outcome.TooLarge literals) says h = absurd (let no = h.0 in cc)
     unkept_leaves e outcome.Memory says h = absurd (let no = h.0 in cc)
 
@@ -115,9 +128,9 @@ module _ (files : Files) (n : ℕ) (design proof : List ℕ) (known_files : Opti
     told_leaves : (found : Outcome) → IsOutcome m d n b found → KeepsLog {X = Unit {0}} (Ok tt) files proof found known_files → is_answered (reply_for_outcome d n b.conflicts b.ticks found).status ≡ true → left (reply_for_outcome d n b.conflicts b.ticks found).status
     told_leaves (outcome.Infeasible log) says kept answered = (d, parsed, record { log = log.items; proves = log_shows log says; holds = kept })
     told_leaves (outcome.Plan plan verdict) says kept answered = kept.1
-    told_leaves (outcome.ConflictsSpent log clause hints) says kept answered = kept.1
+    told_leaves (outcome.ConflictsSpent log clause hints failed) says kept answered = kept.1
     told_leaves (outcome.TicksSpent failed sum at_hand) says kept answered = kept.1
-    told_leaves (outcome.LogSpent log bytes next) says kept answered = kept.1
+    told_leaves (outcome.LogSpent log bytes next failed) says kept answered = kept.1
     told_leaves (outcome.TooLarge literals) says kept answered = kept.1
     told_leaves outcome.Memory says kept answered = absurd (cc)
 
@@ -153,14 +166,17 @@ module _ (r : Result Reply Ending) (old new : Option Files) (asked : RequestSeen
   pub routes_leaves : (design : List ℕ) → asked ≡ routes design → new ≡ old → leaves asked
   routes_leaves design is same = subst leaves (sym is) (every_status r (λ s. new ≡ old) (λ s. same))
 
-  pub check_leaves : (n : ℕ) (design proof : List ℕ) → asked ≡ check n design proof → new ≡ old → leaves asked
-  check_leaves n design proof is same = subst leaves (sym is) (every_status r (λ s. new ≡ old) (λ s. same))
+  pub check_leaves : (n : ℕ) (in_time : Option InTime) (design proof : List ℕ) → asked ≡ check n in_time design proof → new ≡ old → leaves asked
+  check_leaves n in_time design proof is same = subst leaves (sym is) (every_status r (λ s. new ≡ old) (λ s. same))
 
   pub trial_leaves : (seed size : ℕ) → asked ≡ trial seed size → new ≡ old → leaves asked
   trial_leaves seed size is same = subst leaves (sym is) (every_status r (λ s. new ≡ old) (λ s. same))
 
   pub verify_leaves : (n conflicts ticks : ℕ) (mode : SearchMode) (design proof : List ℕ) → asked ≡ verify n conflicts ticks mode design proof → ((files : Files) → old ≡ Some files → OnEnd r (λ s. SearchLeaves files n design proof s new)) → leaves asked
   verify_leaves n conflicts ticks mode design proof is h = subst leaves (sym is) (one_status r old (λ files s. SearchLeaves files n design proof s new) h)
+
+  pub tightest_leaves : (n conflicts ticks w : ℕ) (bounds : Bool) (design proof : List ℕ) → asked ≡ tightest n conflicts ticks w bounds design proof → ((files : Files) → old ≡ Some files → OnEnd r (λ s. TimeLeaves files n w design proof s new)) → leaves asked
+  tightest_leaves n conflicts ticks w bounds design proof is h = subst leaves (sym is) (one_status r old (λ files s. TimeLeaves files n w design proof s new) h)
 
 -- ---- a run
 
@@ -183,6 +199,7 @@ pub run_leaves : (asked : Option RequestSeen) (s t : Status) (old new : Option F
 run_leaves None s t old new answered same no_shelf h = h
 run_leaves (Some (simulate design plan)) s t old new answered same no_shelf h = h
 run_leaves (Some (routes design)) s t old new answered same no_shelf h = h
-run_leaves (Some (check n design proof)) s t old new answered same no_shelf h = h
+run_leaves (Some (check n in_time design proof)) s t old new answered same no_shelf h = h
 run_leaves (Some (trial seed size)) s t old new answered same no_shelf h = h
 run_leaves (Some (verify n conflicts ticks mode design proof)) s t old new answered same no_shelf h = λ files reply_for. printed_leaves files n design proof new s t answered same no_shelf (h files reply_for)
+run_leaves (Some (tightest n conflicts ticks w bounds design proof)) s t old new answered same no_shelf h = λ files reply_for. printed_times files n w design proof new s t answered same no_shelf (h files reply_for)

@@ -1,11 +1,17 @@
 pub mod Deciding
 pub mod Judging
 pub mod Logs
+pub mod LeastTicks
+pub mod TimeLeaving
 pub mod Leaving
 pub mod Stored
 pub mod Finding
+pub mod TimeFinding
+pub mod TimeTelling
+pub mod TimeStored
 pub mod AnyShelf
 pub mod Trying
 pub mod Telling
 pub mod Verdicts
 pub mod Shortly
+pub mod TimeShortly

@@ -1,5 +1,5 @@
 -- The promises in short, from those at length.
-use Rattle.std.proofs.Common.{◌≡◌, ℕ, ◌≤◌, Bool, true, false, List, [], ◌∷◌, length, map, nat_lt, nat_le, if◌then◌else◌, Option, Some, Result, Ok, Err, inl, inr, ⊎_elim, refl, ap, sym, ◌∙◌, arith}
+use Rattle.std.proofs.Common.{◌≡◌, ℕ, ◌≤◌, Bool, true, false, List, [], ◌∷◌, length, map, nat_lt, nat_le, if◌then◌else◌, Option, None, Some, Result, Ok, Err, inl, inr, ⊎_elim, refl, ap, sym, ◌∙◌, arith}
 use Rattle.std.proofs.lemmas.Bool.Decides.{nat_tests}
 use Rattle.design_table.specs.declared.fault.Code.{Code}
 use Rattle.design_table.specs.declared.fault.Code.TheVariants.{D12, D13}
@@ -18,7 +18,7 @@ use Rattle.rail_spelling.proofs.Asked.{simulate_asked, verify_asked, check_asked
 use Rattle.rail_spelling.proofs.Unique.{designs_spelled, spelled_one, plans_spelled, spelled_plans_one}
 use Rattle.rail_words.specs.Requests.{simulate, verify, check, request_of}
 use Rattle.timetable.specs.Timetable.{timetable_of}
-use Rattle.verify_loop.specs.declared.outcome.Outcome.{Outcome}
+use Rattle.rail_cli.specs.Ended.{Ended}
 use Rattle.cli_shell.specs.declared.input.InputFile.{InputFile}
 use Rattle.cli_shell.specs.declared.input.InputFile.TheVariants as file
 use Rattle.cli_shell.specs.declared.status.Status.{Status}
@@ -50,18 +50,18 @@ read_back (Ok e) d h =
     listed (Err x) h = absurd (cc)
 read_back (Err x) d h = absurd (cc)
 
-is_read : (bytes : List ℕ) (d : Station) → design_of bytes ≡ Ok d → IsDesign bytes d
+pub is_read : (bytes : List ℕ) (d : Station) → design_of bytes ≡ Ok d → IsDesign bytes d
 is_read bytes d h = record { spelled = designs_spelled bytes d h; alone = λ e s. spelled_one bytes d e h s }
 
 -- the design of a reply that is a verdict
-record Read (bytes : List ℕ) (next : Station → ReplySeen) : Type 0 where
-  design : Station
-  is : design_of bytes ≡ Ok design
-  listed : with_routes design ≡ Ok design
-  fits : within_limit file.Design bytes ≡ Ok bytes
-  verdict : is_verdict (next design).status ≡ true
+pub record Read (bytes : List ℕ) (next : Station → ReplySeen) : Type 0 where
+  pub design : Station
+  pub is : design_of bytes ≡ Ok design
+  pub listed : with_routes design ≡ Ok design
+  pub fits : within_limit file.Design bytes ≡ Ok bytes
+  pub verdict : is_verdict (next design).status ≡ true
 
-reads : (bytes : List ℕ) (next : Station → ReplySeen) → is_verdict (unless_refused (within_limit file.Design bytes) (λ text. unless_refused (design_in text) next)).status ≡ true → Read bytes next
+pub reads : (bytes : List ℕ) (next : Station → ReplySeen) → is_verdict (unless_refused (within_limit file.Design bytes) (λ text. unless_refused (design_in text) next)).status ≡ true → Read bytes next
 reads bytes next verdict =
     let one = passed (within_limit file.Design bytes) (λ text. unless_refused (design_in text) next) (long_refuses file.Design bytes) verdict in
     let two = passed (design_in one.read) next (design_refuses (and_then (design_of one.read) with_routes)) one.verdict in
@@ -102,10 +102,10 @@ plan_back d (Err x) plan h = absurd (cc)
 
 -- ---- statuses
 
-verdict_answered : (s : Status) → IsVerdict s → is_answered s ≡ true
+pub verdict_answered : (s : Status) → IsVerdict s → is_answered s ≡ true
 verdict_answered s v = ⊎_elim (λ e. ap is_answered e) (λ e. ap is_answered e) v
 
-verdict_so : (s : Status) → IsVerdict s → is_verdict s ≡ true
+pub verdict_so : (s : Status) → IsVerdict s → is_verdict s ≡ true
 verdict_so s v = ⊎_elim (λ e. ap is_verdict e) (λ e. ap is_verdict e) v
 
 pub no_verdict : (s : Status) → is_verdict s ≡ false → IsVerdict s → ⊥
@@ -114,9 +114,9 @@ no_verdict s isnt v = let h = verdict_so s v in cc
 -- ---- the promises
 
 -- what is known of a run: the answer, and what it prints
-abbrev Answered : Files → List (List ℕ) → Status → Option (List ℕ) → Option (List ℕ) → Option (List (List ℕ)) → Option (List (List ℕ)) → Type 0
+abbrev pub Answered : Files → List (List ℕ) → Status → Option (List ℕ) → Option (List ℕ) → Option (List (List ℕ)) → Option (List (List ℕ)) → Type 0
 Answered files words t text new_text pieces new_pieces =
-    (found : Outcome) × Finds files (request_of words) found × Prints (answer_of files found words) t text new_text pieces new_pieces
+    (found : Ended) × Finds files (request_of words) found × Prints (answer_of files found words) t text new_text pieces new_pieces
 
 module _ (files : Files) (words : List (List ℕ)) (t : Status) (text new_text : Option (List ℕ)) (pieces new_pieces : Option (List (List ℕ)))
     (answer : Answered files words t text new_text pieces new_pieces) where
@@ -161,23 +161,23 @@ module _ (files : Files) (words : List (List ℕ)) (t : Status) (text new_text :
   checked n design proof infeasible line done =
       let (found, finds, prints) = answer in
       let asked = check_asked words n design proof line in
-      let status : is_verdict (answer_to files found (Some (check n design proof))).status ≡ true = ap (λ a. is_verdict (answer_to files found a).status) (sym asked) ∙ (ap is_verdict (sym (prints.status (ap is_answered done))) ∙ ap is_verdict done) in
+      let status : is_verdict (answer_to files found (Some (check n None design proof))).status ≡ true = ap (λ a. is_verdict (answer_to files found a).status) (sym asked) ∙ (ap is_verdict (sym (prints.status (ap is_answered done))) ∙ ap is_verdict done) in
       let r = reads (files design) (λ d. with_proof n d (files proof)) status in
       record {
         design = r.design;
         is_design = is_read (files design) r.design r.is;
-        reports = infeasible r.design (record { design_name = design; proof_name = proof; asked = asked; parses_design = r.is }) done;
+        reports = infeasible r.design (record { design_name = design; proof_name = proof; in_time = None; asked = asked; spelled = r.design; parses_design = r.is; put = refl }) done;
       }
 
   module _ (n : ℕ) (design proof : List ℕ) (line : VerifyLine words n design proof) where
     asked_here : request_of words ≡ Some (verify n line.conflicts line.ticks line.mode design proof)
     asked_here = verify_asked words n design proof line
 
-    read_here : IsVerdict t → Read (files design) (λ d. searched_in (aim_of line.mode) d n line.conflicts line.ticks answer.0)
+    read_here : IsVerdict t → Read (files design) (λ d. searched_in (aim_of line.mode) d n line.conflicts line.ticks answer.0.plan)
     read_here v =
         let (found, finds, prints) = answer in
         let status : is_verdict (answer_to files found (Some (verify n line.conflicts line.ticks line.mode design proof))).status ≡ true = ap (λ a. is_verdict (answer_to files found a).status) (sym asked_here) ∙ (ap is_verdict (sym (prints.status (verdict_answered t v))) ∙ verdict_so t v) in
-        reads (files design) (λ d. searched_in (aim_of line.mode) d n line.conflicts line.ticks found) status
+        reads (files design) (λ d. searched_in (aim_of line.mode) d n line.conflicts line.ticks found.plan) status
 
     search_here : (d : Station) → design_of (files design) ≡ Ok d → Searches files words n d
     search_here d is = record { conflicts = line.conflicts; ticks = line.ticks; mode = line.mode; design_name = design; proof_name = proof; asked = asked_here; parses_design = is }

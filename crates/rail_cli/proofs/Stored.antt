@@ -1,5 +1,5 @@
 -- Checks of proofs that a search has stored.
-use Rattle.std.proofs.Common.{◌≡◌, ◌≢◌, true, ℕ, List, Some, bytes_eq, refl, ap, sym, ◌∙◌}
+use Rattle.std.proofs.Common.{◌≡◌, ◌≢◌, true, ℕ, List, None, Some, bytes_eq, refl, ap, sym, ◌∙◌}
 use Rattle.std.proofs.lemmas.Bool.{false_from_ne_true}
 use Rattle.std.proofs.lemmas.Slice.Eq.{bytes_eq-Decides}
 use Rattle.rail_outside.specs.Files.{Files, updated}
@@ -14,11 +14,11 @@ use Rattle.rail_cli.specs.Passes.{StoredProofsPass, verify_words, VerifyPassesCh
 use Rattle.rail_cli.specs.Searches.{Searches}
 
 -- the bytes under the name are the new ones
-stored_there : (files : Files) (name bytes : List ℕ) → updated files name bytes name ≡ bytes
+pub stored_there : (files : Files) (name bytes : List ℕ) → updated files name bytes name ≡ bytes
 stored_there files name bytes = rw ((bytes_eq-Decides name name).1 refl) refl
 
 -- every other name stays
-stored_apart : (files : Files) (name bytes other : List ℕ) → other ≢ name → updated files name bytes other ≡ files other
+pub stored_apart : (files : Files) (name bytes other : List ℕ) → other ≢ name → updated files name bytes other ≡ files other
 stored_apart files name bytes other differ = rw (false_from_ne_true (bytes_eq name other) (λ same. differ (sym ((bytes_eq-Decides name other).0 same)))) refl
 
 pub passes_asked : StoredProofsPass
@@ -27,8 +27,8 @@ passes_asked files left design proof n d old new tells differ found words asked 
     let known_files : Some left ≡ Some (updated files proof log.log) = log.holds in
     let now : left ≡ updated files proof log.log = cc in
     ap (answer_to left found) asked
-    ∙ (ap (λ (bytes : List ℕ). check_reply n bytes (left proof)) (ap (λ (f : Files). f design) now ∙ stored_apart files proof log.log design differ)
-    ∙ (ap (check_reply n (files design)) (ap (λ (f : Files). f proof) now ∙ stored_there files proof log.log) ∙ tells.passes))
+    ∙ (ap (λ (bytes : List ℕ). check_reply n None bytes (left proof)) (ap (λ (f : Files). f design) now ∙ stored_apart files proof log.log design differ)
+    ∙ (ap (check_reply n None (files design)) (ap (λ (f : Files). f proof) now ∙ stored_there files proof log.log) ∙ tells.passes))
 
 -- the words of `verify`, with whatever flags, ask for just what they say
 verify_asked : (mode : SearchMode) (program steps conflicts ticks design proof : List ℕ) (n c t : ℕ) → steps_of steps ≡ Some n → conflicts_of conflicts ≡ Some c → ticks_of ticks ≡ Some t

@@ -14,7 +14,7 @@ use Rattle.rail_spec.specs.Track.{routes_of}
 use Rattle.clause_spec.specs.Clauses.{base_clauses, past_limit}
 use Rattle.clause_spec.specs.declared.question.BaseKind.TheVariants.{Plain}
 use Rattle.rail_words.specs.declared.request.SearchMode.TheVariants as by
-use Rattle.rail_words.specs.Requests.{RequestSeen, simulate, routes, verify, check, trial, IsRequestInRange}
+use Rattle.rail_words.specs.Requests.{RequestSeen, simulate, routes, verify, tightest, check, trial, IsRequestInRange}
 use Rattle.verify_loop.specs.declared.outcome.Budgets.{Budgets}
 use Rattle.verify_loop.specs.declared.outcome.Outcome.{Outcome}
 use Rattle.verify_loop.specs.declared.outcome.Outcome.TheVariants as outcome
@@ -28,11 +28,11 @@ use Rattle.cli_shell.specs.declared.ending.Ending.TheVariants as ending
 use Rattle.cli_shell.specs.Statuses.{is_answered, is_verdict}
 use Rattle.cli_shell.specs.Answers.{ReplySeen, with_routes, design_or_answer, verdict_status, unless_refused}
 use Rattle.proof_shell.specs.Answers.{with_clauses}
-use Rattle.rail_cli.specs.Answers.{aim_of, trial_conflicts, trial_ticks, reply_for_trial, tried_in, tried}
+use Rattle.rail_cli.specs.Answers.{budgets_of, aim_of, trial_conflicts, trial_ticks, reply_for_trial, tried_in, tried}
 use Rattle.cli_shell.specs.Shows.{verdict_at_horizon}
 use Rattle.cli_shell.specs.Replies.{reply_seen, ReadsOrEnds, Replies}
 use Rattle.rail_cli.specs.Replies.{deciding_tick, RepliesTrial, Tries}
-use Rattle.rail_cli.specs.Searches.{budgets_of, EndsTrial}
+use Rattle.rail_cli.specs.Searches.{EndsTrial}
 use Rattle.cli_shell.specs.Prints.{Prints}
 use Rattle.rail_cli.specs.Trials.{ReportsTrial}
 use Rattle.cli_shell.proofs.Deciding.{answered_next, answered_refusal}
@@ -111,7 +111,8 @@ no_memory None = tt
 no_memory (Some (simulate design plan)) = tt
 no_memory (Some (routes design)) = tt
 no_memory (Some (verify n conflicts ticks mode design proof)) = tt
-no_memory (Some (check n design proof)) = tt
+no_memory (Some (tightest n conflicts ticks w bounds design proof)) = tt
+no_memory (Some (check n in_time design proof)) = tt
 no_memory (Some (trial seed size)) = (outcome.Memory, (tt, tt), tt)
 
 pub tries_want : (r : Result Reply Ending) (asked : Option RequestSeen) → r ≡ Err ending.Memory → Tries asked r
@@ -152,9 +153,9 @@ module _ (seed size : ℕ) (t : Status) (text new_text : Option (List ℕ)) (pie
     planned = λ e. (let same = prints.status (ap is_answered e) in let clash = sym same ∙ e in absurd (cc));
     none = λ e. record { text = prints.written (ap is_answered e); none = ends.0.0 };
   }
-  told_tells (outcome.ConflictsSpent log clause hints) ends prints = no_verdict _ refl prints
+  told_tells (outcome.ConflictsSpent log clause hints failed) ends prints = no_verdict _ refl prints
   told_tells (outcome.TicksSpent failed sum at_hand) ends prints = no_verdict _ refl prints
-  told_tells (outcome.LogSpent log bytes next) ends prints = no_verdict _ refl prints
+  told_tells (outcome.LogSpent log bytes next failed) ends prints = no_verdict _ refl prints
   told_tells (outcome.TooLarge literals) ends prints = no_verdict _ refl prints
   told_tells outcome.Memory ends prints = no_verdict _ refl prints
 

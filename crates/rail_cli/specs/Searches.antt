@@ -1,45 +1,38 @@
 -- Searches for a plan: what they end with, what they leave on the shelf, and what their answers say of the design.
-use Rattle.std.specs.Prelude.{◌≡◌, ◌≢◌, ◌≤◌, ◌<◌, ◌⊎◌, ℕ, ◌*◌, List, ◌∷◌, length, Option, Some, Ok}
+use Rattle.std.specs.Prelude.{◌≡◌, ◌≢◌, ◌<◌, ◌⊎◌, ℕ, ◌*◌, List, ◌∷◌, length, Option, None, Some, Ok}
 use Rattle.std.specs.List.{concat}
 use Rattle.infra_reader.specs.Design.{design_of}
-use Rattle.log_checker.specs.declared.check_result.CheckResult.TheVariants.{Yes}
 use Rattle.verify_loop.specs.declared.outcome.Aim.{Aim}
 use Rattle.rail_words.specs.declared.request.SearchMode.{SearchMode}
 use Rattle.rail_words.specs.declared.request.SearchMode.TheVariants as by
-use Rattle.proof_judge.specs.Judged.{judged}
 use Rattle.rail_base.specs.declared.plan.Command.{Command}
 use Rattle.rail_base.specs.declared.station.Station.{Station}
-use Rattle.rail_outside.specs.Files.{Files, updated}
+use Rattle.rail_outside.specs.Files.{Files}
 use Rattle.rail_outside.specs.Growth.{grown}
 use Rattle.rail_spec.specs.Feasible.{IsFeasible, IsInfeasible}
 use Rattle.rail_spec.specs.Requirements.{cost}
 use Rattle.rail_spec.specs.Track.{routes_of}
-use Rattle.rail_words.specs.Requests.{RequestSeen, verify, trial, request_of}
+use Rattle.rail_words.specs.Requests.{RequestSeen, verify, tightest, trial, request_of}
 use Rattle.timetable.specs.Lines.{met_line}
 use Rattle.timetable.specs.Timetable.{timetable_of}
-use Rattle.verify_loop.specs.declared.outcome.Budgets.{Budgets}
 use Rattle.verify_loop.specs.declared.outcome.Outcome.{Outcome}
 use Rattle.verify_loop.specs.Outcomes.{IsOutcome, Fits}
 use Rattle.verify_loop.specs.Telling.{TellsHowFar}
 use Rattle.workload.specs.Made.{made}
 use Rattle.cli_shell.specs.declared.status.Status.{Status}
 use Rattle.cli_shell.specs.declared.status.Status.TheVariants.{Done, No, Memory, ShelfFault, SinkFault}
-use Rattle.cli_shell.specs.declared.input.InputFile.TheVariants as file
-use Rattle.cli_shell.specs.Texts.{limit_of}
 use Rattle.proof_shell.specs.Texts.{yes_line}
 use Rattle.rail_cli.specs.Texts.{infeasible_line}
 use Rattle.cli_shell.specs.Answers.{one_line, design_in}
 use Rattle.proof_shell.specs.Answers.{check_reply}
-use Rattle.proof_shell.specs.Verdicts.{HasFewFor}
-use Rattle.rail_cli.specs.Answers.{reply_for_plan, aim_of, trial_conflicts, trial_ticks}
+use Rattle.rail_cli.specs.Answers.{reply_for_plan, aim_of, budgets_of, trial_conflicts, trial_ticks}
+use Rattle.rail_cli.specs.Ended.{Ended}
+use Rattle.rail_cli.specs.Stored.{HoldsLog, SpoilsLog}
+use Rattle.rail_cli.specs.Times.{EndsTime, TellsTime, TimeLeaves}
 use Rattle.cli_shell.specs.Shows.{verdict_at_horizon}
 use Rattle.cli_shell.specs.Simulations.{RunsSafely}
 
 -- ---- what a search ends with
-
--- what a search may spend: so many derived clauses and ticks, and a log as long as a proof may be
-abbrev pub budgets_of : ℕ → ℕ → Budgets
-budgets_of conflicts ticks = record { conflicts = conflicts; ticks = ticks; log_bytes = limit_of file.Proof }
 
 -- the outcome says what it is to say of the station that the seed and the size make, for twice as many steps as its size; want of memory says nothing
 abbrev pub EndsTrial : ℕ → ℕ → Outcome → Type 0
@@ -53,17 +46,21 @@ EndsSearch m design_bytes n conflicts ticks found = (d : Station) → design_in 
     → IsOutcome m d n (budgets_of conflicts ticks) found × Fits m d n found
 
 -- a search that is asked for ends so for the design's file, and a trial for the station that is made
-abbrev pub Finds : Files → Option RequestSeen → Outcome → Type 0
+abbrev pub Finds : Files → Option RequestSeen → Ended → Type 0
 Finds files (Some (verify n conflicts ticks mode design proof)) found =
-    EndsSearch (aim_of mode) (files design) n conflicts ticks found
-Finds files (Some (trial seed size)) found = EndsTrial seed size found
+    EndsSearch (aim_of mode) (files design) n conflicts ticks found.plan
+Finds files (Some (tightest n conflicts ticks w bounds design proof)) found =
+    EndsTime bounds w (files design) n conflicts ticks found.time
+Finds files (Some (trial seed size)) found = EndsTrial seed size found.plan
 Finds files _ found = Unit {0}
 
 -- the same for the bytes of the design's file
-abbrev pub FindsGiven : List ℕ → Option RequestSeen → Outcome → Type 0
+abbrev pub FindsGiven : List ℕ → Option RequestSeen → Ended → Type 0
 FindsGiven design_bytes (Some (verify n conflicts ticks mode design proof)) found =
-    EndsSearch (aim_of mode) design_bytes n conflicts ticks found
-FindsGiven design_bytes (Some (trial seed size)) found = EndsTrial seed size found
+    EndsSearch (aim_of mode) design_bytes n conflicts ticks found.plan
+FindsGiven design_bytes (Some (tightest n conflicts ticks w bounds design proof)) found =
+    EndsTime bounds w design_bytes n conflicts ticks found.time
+FindsGiven design_bytes (Some (trial seed size)) found = EndsTrial seed size found.plan
 FindsGiven design_bytes _ found = Unit {0}
 
 -- ---- what is told meanwhile
@@ -72,30 +69,12 @@ FindsGiven design_bytes _ found = Unit {0}
 abbrev pub Tells : Files → Option RequestSeen → Option (List (List ℕ)) → Option (List (List ℕ)) → Type 0
 Tells files (Some (verify n conflicts ticks mode design proof)) old new =
     (d : Station) → design_in (files design) ≡ Ok d → TellsHowFar (aim_of mode) d n old new
+Tells files (Some (tightest n conflicts ticks w bounds design proof)) old new =
+    TellsTime bounds w (files design) n old new
 Tells files (Some (trial seed size)) old new = TellsHowFar (aim_of by.Plain) (made seed size) (2 * size) old new
 Tells files _ old new = new ≡ old
 
 -- ---- what a run leaves on the shelf
-
--- the log is no longer than a proof may be, the clauses that are asked of before it is judged are few, and it shows
--- that the design has no plan of n steps
-pub record ShowsNone (d : Station) (n : ℕ) (log : List ℕ) : Type 0 where
-  pub within_limit : length log ≤ limit_of file.Proof
-  pub few : HasFewFor d n log
-  pub shows : judged d n log ≡ Yes n
-
--- the shelf holds these files with such a log under the proof's name
-pub record HoldsLog (files : Files) (proof : List ℕ) (d : Station) (n : ℕ) (known_files : Option Files) : Type 0 where
-  pub log : List ℕ
-  pub proves : ShowsNone d n log
-  pub holds : known_files ≡ Some (updated files proof log)
-
--- such a log was to be stored, and the shelf holds these files with some bytes under the proof's name
-pub record SpoilsLog (files : Files) (proof : List ℕ) (d : Station) (n : ℕ) (known_files : Option Files) : Type 0 where
-  pub log : List ℕ
-  pub proves : ShowsNone d n log
-  pub some : List ℕ
-  pub holds : known_files ≡ Some (updated files proof some)
 
 -- the design in the file has no plan of n steps, and the shelf holds a log that shows it
 abbrev pub HoldsProof : Files → ℕ → List ℕ → List ℕ → Option Files → Type 0
@@ -120,6 +99,8 @@ SearchLeaves files n design proof _ known_files = known_files ≡ Some files
 abbrev pub Leaves : Option RequestSeen → Status → Option Files → Option Files → Type 0
 Leaves (Some (verify n conflicts ticks mode design proof)) s old new =
     (files : Files) → old ≡ Some files → SearchLeaves files n design proof s new
+Leaves (Some (tightest n conflicts ticks w bounds design proof)) s old new =
+    (files : Files) → old ≡ Some files → TimeLeaves files n w design proof s new
 Leaves _ s old new = new ≡ old
 
 -- ---- what the answers say
@@ -149,4 +130,4 @@ pub record ReportsNone (files : Files) (design proof : List ℕ) (n : ℕ) (d : 
   pub text : new ≡ grown old (infeasible_line n)
   pub none : IsInfeasible d n
   pub stored : HoldsLog files proof d n known_files
-  pub passes : check_reply n (files design) stored.log ≡ one_line Done (yes_line n)
+  pub passes : check_reply n None (files design) stored.log ≡ one_line Done (yes_line n)

@@ -1,6 +1,7 @@
 -- The promises in short: of plain command lines, and of files by what they spell.
 use Rattle.std.specs.Prelude.{◌≡◌, ◌≢◌, ◌⊎◌, ℕ, ◌<◌, List, ◌∷◌, length, Option}
 use Rattle.std.specs.List.{concat}
+use Rattle.greatest_time.specs.Times.{with_max}
 use Rattle.rail_base.specs.declared.plan.Command.{Command}
 use Rattle.rail_base.specs.declared.station.Station.{Station}
 use Rattle.rail_outside.specs.Growth.{grown}
@@ -14,7 +15,7 @@ use Rattle.cli_shell.specs.declared.status.Status.TheVariants.{Done, No}
 use Rattle.rail_cli.specs.Checks.{ReportsInfeasible}
 use Rattle.cli_shell.specs.Simulations.{RunsSafely, Settles}
 use Rattle.cli_shell.specs.Texts.{plan_line}
-use Rattle.rail_cli.specs.Texts.{plan_steps_line, infeasible_line}
+use Rattle.rail_cli.specs.Texts.{plan_steps_line, infeasible_line, tightest_line}
 
 -- the bytes spell this design, and no other
 pub record IsDesign (bytes : List ℕ) (d : Station) : Type 0 where
@@ -61,3 +62,33 @@ pub record FoundNone (design_bytes : List ℕ) (n : ℕ) (old new : Option (List
   pub is_design : IsDesign design_bytes design
   pub text : new ≡ grown old (infeasible_line n)
   pub none : IsInfeasible design n
+
+-- a check with a greatest time put into a within that ended with 0: of the design in the file with that time no plan is feasible
+-- of as many steps as are printed
+pub record CheckedInTime (design_bytes : List ℕ) (n w ms : ℕ) (old new : Option (List ℕ)) : Type 0 where
+  pub design : Station
+  pub is_design : IsDesign design_bytes design
+  pub reports : ReportsInfeasible n (with_max design w ms) old new
+
+-- a search for the least time of a within that ended with 0: the plan that is printed in the third line is feasible for n steps
+-- over the design in the file where the within allows as much time as is printed in the first, its run is safe, and no plan of
+-- n steps is feasible where it allows less
+pub record FoundLeast (design_bytes : List ℕ) (n w : ℕ) (old new : Option (List ℕ)) : Type 0 where
+  pub design : Station
+  pub is_design : IsDesign design_bytes design
+  pub least_ms : ℕ
+  pub plan : List (List Command)
+  pub more : List (List ℕ)
+  pub text : new ≡ grown old (concat (tightest_line w least_ms ∷ plan_steps_line (length plan)
+      ∷ plan_line (with_max design w least_ms) plan ∷ more))
+  pub feasible : IsFeasible (with_max design w least_ms) n plan
+  pub none_less : (ms : ℕ) → ms < least_ms → IsInfeasible (with_max design w ms) n
+  pub safe : RunsSafely (with_max design w least_ms) plan
+
+-- a search for the least time of a within that ended with 1: whatever time it allows, no plan of n steps is feasible over the
+-- design in the file
+pub record FoundNoTime (design_bytes : List ℕ) (n w : ℕ) (old new : Option (List ℕ)) : Type 0 where
+  pub design : Station
+  pub is_design : IsDesign design_bytes design
+  pub text : new ≡ grown old (infeasible_line n)
+  pub none : (ms : ℕ) → IsInfeasible (with_max design w ms) n

@@ -1,4 +1,4 @@
--- The lines that are printed of a search and of a trial, each with its LF.
+-- The lines that are printed of searches and of a trial, each with its LF.
 use Rattle.std.specs.Prelude.{ℕ, List, ◌++◌, length, codes, decimal}
 use Rattle.rail_base.specs.declared.station.Station.{Station}
 use Rattle.rail_spec.specs.Track.{routes_of}
@@ -24,6 +24,10 @@ ticks_spent_line sum ticks = codes "ticks spent " ++ decimal sum ++ codes " of "
 -- `log spent <bytes> next <bytes>`
 abbrev pub log_spent_line : ℕ → ℕ → List ℕ
 log_spent_line bytes next = codes "log spent " ++ decimal bytes ++ codes " next " ++ decimal next ++ codes "\n"
+
+-- `tightest within <w> ms <ms>`
+abbrev pub tightest_line : ℕ → ℕ → List ℕ
+tightest_line w ms = codes "tightest within " ++ decimal w ++ codes " ms " ++ decimal ms ++ codes "\n"
 
 -- ---- a trial
 

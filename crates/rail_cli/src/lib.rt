@@ -4,12 +4,13 @@
 #![tactic(auto)]
 
 mod laws;
+mod least;
 mod reliable;
 mod run;
 mod searching;
 mod texts;
 mod trial;
 
-pub use laws::stored_proofs_pass;
+pub use laws::{stored_proofs_pass, stored_times_pass};
 pub use reliable::run_words_reliably;
 pub use run::{run_watched, run_words};

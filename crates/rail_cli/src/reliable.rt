@@ -5,8 +5,8 @@ ghost use Rattle.std.specs.List.{concat};
 ghost use Rattle.rail_outside.specs.Reliable.{files_on, bytes_in};
 ghost use Rattle.rail_words.specs.Requests.{request_of};
 ghost use Rattle.rail_words.specs.Words.{texts_of};
-ghost use Rattle.verify_loop.specs.declared.outcome.Outcome.{Outcome};
 ghost use Rattle.rail_cli.specs.Answers.{answer_of};
+ghost use Rattle.rail_cli.specs.Ended.{Ended};
 ghost use Rattle.rail_cli.specs.Searches.{Finds, Leaves};
 
 use crate::run::run_words;
@@ -22,7 +22,7 @@ pub fn run_words_reliably(
     shelf: &mut ReliableShelf,
     out: &mut ReliableSink,
 ) -> Status
-    ensures answer { result ≢ Status.Memory → (found : Outcome)
+    ensures answer { result ≢ Status.Memory → (found : Ended)
         × Finds (files_on shelf.old) (request_of (texts_of words.now)) found
         × (result ≡ (answer_of (files_on shelf.old) found (texts_of words.now)).status)
         × (bytes_in out.new

@@ -6,10 +6,11 @@ ghost use Rattle.rail_base.specs.declared.plan.Command.{Command};
 ghost use Rattle.rail_outside.specs.Files.{Files};
 ghost use Rattle.rail_outside.specs.Growth.{Rose, GrowsByPrefix};
 ghost use Rattle.rail_words.specs.Requests.{IsRequestInRange, is_watched, request_of, trial};
-ghost use Rattle.rail_spelling.specs.Lines.{CheckLine, SimulateLine, TrialLine, VerifyLine, Word};
+ghost use Rattle.rail_spelling.specs.Lines.{CheckInTimeLine, CheckLine, SimulateLine, TightestLine, TrialLine, VerifyLine};
+ghost use Rattle.rail_spelling.specs.Lines.{Word};
 ghost use Rattle.rail_words.specs.Laws.{AsksForNothing};
 ghost use Rattle.rail_words.specs.Words.{texts_of, request_seen};
-ghost use Rattle.verify_loop.specs.declared.outcome.Outcome.{Outcome};
+ghost use Rattle.rail_cli.specs.Ended.{Ended};
 ghost use Rattle.cli_shell.specs.Statuses.{is_answered};
 ghost use Rattle.rail_cli.specs.Answers.{answer_of, asks_to, asks_of};
 ghost use Rattle.rail_cli.specs.Checks.{Checks, ReportsInfeasible};
@@ -18,12 +19,14 @@ ghost use Rattle.rail_cli.specs.Prints.{PrintsSome};
 ghost use Rattle.cli_shell.specs.Replies.{RefusesFile, OnReply, OnEnd};
 ghost use Rattle.rail_cli.specs.Replies.{DecidesRequest, RepliesSo, RepliesSome, Tries};
 ghost use Rattle.rail_cli.specs.Searches.{Finds, Tells, Leaves, Searches, ReportsPlan, ReportsNone};
-ghost use Rattle.rail_cli.specs.Short.{IsVerdict, Simulated, Checked, Found, FoundNone};
+ghost use Rattle.rail_cli.specs.Short.{IsVerdict, Simulated, Checked, CheckedInTime, Found, FoundLeast, FoundNone, FoundNoTime};
+ghost use Rattle.rail_cli.specs.Times.{ReportsLeast, ReportsNoTime, TimeSearches};
 ghost use Rattle.cli_shell.specs.Simulations.{ReportsFeasible};
 ghost use Rattle.rail_cli.specs.Simulations.{Simulates, DoneWhereFeasible};
 ghost use Rattle.rail_cli.specs.Trials.{ReportsTrial};
 ghost use Rattle.rail_cli.specs.Verdicts.{IsUnrefused, HasVerdict};
 
+use crate::least::time_reply;
 use crate::searching::{budgets, search_reply};
 use crate::trial::trial_reply;
 use cli_shell::{Ending, Reply, Status, print, routes_reply, simulation_reply, usage};
@@ -43,7 +46,7 @@ pub fn run_words<S: Shelf, O: Sink>(
     shelf: &mut S,
     out: &mut O,
 ) -> Status
-    ensures answer { (files : Files) → S.known_files shelf.old ≡ Some files → (found : Outcome)
+    ensures answer { (files : Files) → S.known_files shelf.old ≡ Some files → (found : Ended)
         × Finds files (request_of (texts_of words.now)) found
         × Prints (answer_of files found (texts_of words.now)) result
         (O.written out.old) (O.written out.new) (O.puts out.old) (O.puts out.new) }
@@ -69,6 +72,17 @@ pub fn run_words<S: Shelf, O: Sink>(
         → ReportsNone files s.design_name s.proof_name n d (O.written out.old) (O.written out.new)
         (S.known_files shelf.new) }
 
+    // A search for the least time of a within prints a plan that is feasible in it, and that there is none only where there is
+    // none whatever the time. The log that it stores shows that less time is too little.
+    ensures found_least { (files : Files) → S.known_files shelf.old ≡ Some files → (n w : ℕ) (d : Station)
+        → (s : TimeSearches files (texts_of words.now) n w d) → result ≡ Status.Done
+        → ReportsLeast files s.design_name s.proof_name n w d (O.written out.old) (O.written out.new)
+        (S.known_files shelf.new) }
+    ensures found_no_time { (files : Files) → S.known_files shelf.old ≡ Some files → (n w : ℕ) (d : Station)
+        → (s : TimeSearches files (texts_of words.now) n w d) → result ≡ Status.No
+        → ReportsNoTime files s.design_name s.proof_name n w d (O.written out.old) (O.written out.new)
+        (S.known_files shelf.new) }
+
     // The same in short, of plain command lines and of files by what they spell.
     ensures simulated { (files : Files) → S.known_files shelf.old ≡ Some files → (design plan : Word)
         → SimulateLine (texts_of words.now) design plan → IsVerdict result
@@ -82,6 +96,15 @@ pub fn run_words<S: Shelf, O: Sink>(
     ensures found_none { (files : Files) → S.known_files shelf.old ≡ Some files → (n : ℕ) (design proof : Word)
         → VerifyLine (texts_of words.now) n design proof → result ≡ Status.No
         → FoundNone (files design) n (O.written out.old) (O.written out.new) }
+    ensures checked_in_time { (files : Files) → S.known_files shelf.old ≡ Some files → (n w ms : ℕ)
+        → (design proof : Word) → CheckInTimeLine (texts_of words.now) n w ms design proof → result ≡ Status.Done
+        → CheckedInTime (files design) n w ms (O.written out.old) (O.written out.new) }
+    ensures tightest { (files : Files) → S.known_files shelf.old ≡ Some files → (n w : ℕ) (design proof : Word)
+        → TightestLine (texts_of words.now) n w design proof → result ≡ Status.Done
+        → FoundLeast (files design) n w (O.written out.old) (O.written out.new) }
+    ensures no_time { (files : Files) → S.known_files shelf.old ≡ Some files → (n w : ℕ) (design proof : Word)
+        → TightestLine (texts_of words.now) n w design proof → result ≡ Status.No
+        → FoundNoTime (files design) n w (O.written out.old) (O.written out.new) }
 
     // A trial asks nothing of the shelf, so this holds over any.
     ensures tried { (seed size : ℕ) → request_of (texts_of words.now) ≡ Some (trial seed size)
@@ -126,7 +149,7 @@ pub fn run_watched<S: Shelf, O: Sink, P: Sink>(
     out: &mut O,
     progress: &mut P,
 ) -> Status
-    ensures answer { (files : Files) → S.known_files shelf.old ≡ Some files → (found : Outcome)
+    ensures answer { (files : Files) → S.known_files shelf.old ≡ Some files → (found : Ended)
         × Finds files (request_of (texts_of words.now)) found
         × Prints (answer_of files found (texts_of words.now)) result
         (O.written out.old) (O.written out.new) (O.puts out.old) (O.puts out.new) }
@@ -152,6 +175,17 @@ pub fn run_watched<S: Shelf, O: Sink, P: Sink>(
         → ReportsNone files s.design_name s.proof_name n d (O.written out.old) (O.written out.new)
         (S.known_files shelf.new) }
 
+    // A search for the least time of a within prints a plan that is feasible in it, and that there is none only where there is
+    // none whatever the time. The log that it stores shows that less time is too little.
+    ensures found_least { (files : Files) → S.known_files shelf.old ≡ Some files → (n w : ℕ) (d : Station)
+        → (s : TimeSearches files (texts_of words.now) n w d) → result ≡ Status.Done
+        → ReportsLeast files s.design_name s.proof_name n w d (O.written out.old) (O.written out.new)
+        (S.known_files shelf.new) }
+    ensures found_no_time { (files : Files) → S.known_files shelf.old ≡ Some files → (n w : ℕ) (d : Station)
+        → (s : TimeSearches files (texts_of words.now) n w d) → result ≡ Status.No
+        → ReportsNoTime files s.design_name s.proof_name n w d (O.written out.old) (O.written out.new)
+        (S.known_files shelf.new) }
+
     // The same in short, of plain command lines and of files by what they spell.
     ensures simulated { (files : Files) → S.known_files shelf.old ≡ Some files → (design plan : Word)
         → SimulateLine (texts_of words.now) design plan → IsVerdict result
@@ -165,6 +199,15 @@ pub fn run_watched<S: Shelf, O: Sink, P: Sink>(
     ensures found_none { (files : Files) → S.known_files shelf.old ≡ Some files → (n : ℕ) (design proof : Word)
         → VerifyLine (texts_of words.now) n design proof → result ≡ Status.No
         → FoundNone (files design) n (O.written out.old) (O.written out.new) }
+    ensures checked_in_time { (files : Files) → S.known_files shelf.old ≡ Some files → (n w ms : ℕ)
+        → (design proof : Word) → CheckInTimeLine (texts_of words.now) n w ms design proof → result ≡ Status.Done
+        → CheckedInTime (files design) n w ms (O.written out.old) (O.written out.new) }
+    ensures tightest { (files : Files) → S.known_files shelf.old ≡ Some files → (n w : ℕ) (design proof : Word)
+        → TightestLine (texts_of words.now) n w design proof → result ≡ Status.Done
+        → FoundLeast (files design) n w (O.written out.old) (O.written out.new) }
+    ensures no_time { (files : Files) → S.known_files shelf.old ≡ Some files → (n w : ℕ) (design proof : Word)
+        → TightestLine (texts_of words.now) n w design proof → result ≡ Status.No
+        → FoundNoTime (files design) n w (O.written out.old) (O.written out.new) }
 
     // A trial asks nothing of the shelf, so this holds over any.
     ensures tried { (seed size : ℕ) → request_of (texts_of words.now) ≡ Some (trial seed size)
@@ -247,11 +290,31 @@ fn request_reply<S: Shelf, P: Sink>(
             proof,
             progress,
         ),
-        Request::Check {
+        Request::Tightest {
             steps,
+            conflicts,
+            ticks,
+            within,
+            bounds,
             design,
             proof,
-        } => check_reply(alloc, shelf, steps, design, proof),
+        } => time_reply(
+            alloc,
+            shelf,
+            steps,
+            within,
+            bounds,
+            budgets(conflicts, ticks),
+            design,
+            proof,
+            progress,
+        ),
+        Request::Check {
+            steps,
+            in_time,
+            design,
+            proof,
+        } => check_reply(alloc, shelf, steps, in_time, design, proof),
         Request::Trial { seed, size } => trial_reply(alloc, seed, size, progress),
     }
 }

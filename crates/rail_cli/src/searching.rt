@@ -1,7 +1,6 @@
 //! A search for a plan of a design.
 
 ghost use Rattle.std.specs.Prelude.{◌≡◌, ◌≢◌, ◌≤◌, [], ◌∷◌, length, ℕ, List, IfOk, Ok, Some, true};
-ghost use Rattle.proof_judge.specs.Judged.{names_within};
 ghost use Rattle.rail_outside.specs.Asks.{fetched, stored};
 ghost use Rattle.rail_outside.specs.Files.{Files};
 ghost use Rattle.rail_outside.specs.Growth.{Rose, GrowsByPrefix};
@@ -13,11 +12,12 @@ ghost use Rattle.verify_loop.specs.Outcomes.{IsOutcome, Fits};
 ghost use Rattle.verify_loop.specs.Telling.{TellsHowFar};
 ghost use Rattle.rail_base.specs.declared.station.Station.{Station};
 ghost use Rattle.cli_shell.specs.Answers.{one_line, design_in};
-ghost use Rattle.rail_cli.specs.Answers.{reply_for_plan, reply_for_outcome, searched_in, aim_of};
+ghost use Rattle.rail_cli.specs.Answers.{reply_for_plan, reply_for_outcome, searched_in, aim_of, budgets_of};
+ghost use Rattle.proof_judge.specs.Judged.{names_within};
 ghost use Rattle.cli_shell.specs.Shows.{verdict_at_horizon};
 ghost use Rattle.cli_shell.specs.Replies.{RepliesWith, RefusesFile, OnlyFails, Replies, OnEnd};
 ghost use Rattle.rail_cli.specs.Replies.{RepliesSo, RepliesSome, StoresFile, KeepsLog};
-ghost use Rattle.rail_cli.specs.Searches.{budgets_of, SearchLeaves};
+ghost use Rattle.rail_cli.specs.Searches.{SearchLeaves};
 ghost use Rattle.cli_shell.specs.Texts.{limit_of, plan_line};
 ghost use Rattle.rail_cli.specs.Texts.{plan_steps_line, infeasible_line, conflicts_spent_line, ticks_spent_line};
 ghost use Rattle.rail_cli.specs.Texts.{log_spent_line};
@@ -130,7 +130,7 @@ fn plan_lines(alloc: Global, design: &Design, plan: &Plan) -> Result<Vec<Vec<u8>
 }
 
 /// The reply for a plan that is found, with what its run shows.
-fn plan_found(
+pub(crate) fn plan_found(
     alloc: Global,
     design: &Design,
     plan: &Plan,
@@ -149,14 +149,14 @@ fn plan_found(
 }
 
 /// There is no plan of so many steps.
-fn infeasible(alloc: Global, steps: u32) -> Result<Reply, AllocError>
+pub(crate) fn infeasible(alloc: Global, steps: u32) -> Result<Reply, AllocError>
     ensures { RepliesWith result (one_line Status.No (infeasible_line steps)) }
 {
     one_line(alloc, Status::No, infeasible_line(alloc, steps)?)
 }
 
 /// As many clauses were derived as were allowed.
-fn conflicts_spent(alloc: Global, conflicts: u64) -> Result<Reply, AllocError>
+pub(crate) fn conflicts_spent(alloc: Global, conflicts: u64) -> Result<Reply, AllocError>
     ensures { RepliesWith result (one_line Status.ConflictsSpent (conflicts_spent_line conflicts)) }
 {
     one_line(
@@ -167,7 +167,7 @@ fn conflicts_spent(alloc: Global, conflicts: u64) -> Result<Reply, AllocError>
 }
 
 /// The next plan takes more ticks than are left.
-fn ticks_spent(alloc: Global, sum: u64, ticks: u64) -> Result<Reply, AllocError>
+pub(crate) fn ticks_spent(alloc: Global, sum: u64, ticks: u64) -> Result<Reply, AllocError>
     ensures { RepliesWith result (one_line Status.TicksSpent (ticks_spent_line sum ticks)) }
 {
     one_line(
@@ -178,7 +178,7 @@ fn ticks_spent(alloc: Global, sum: u64, ticks: u64) -> Result<Reply, AllocError>
 }
 
 /// The next line of the log has no room.
-fn log_spent(alloc: Global, bytes: u64, next: u64) -> Result<Reply, AllocError>
+pub(crate) fn log_spent(alloc: Global, bytes: u64, next: u64) -> Result<Reply, AllocError>
     ensures { RepliesWith result (one_line Status.LogSpent (log_spent_line bytes next)) }
 {
     one_line(alloc, Status::LogSpent, log_spent_line(alloc, bytes, next)?)
@@ -208,7 +208,7 @@ fn make_reply(
 }
 
 /// Puts bytes under a name of the shelf.
-fn store<S: Shelf>(shelf: &mut S, name: &str, bytes: &[u8]) -> Result<(), Ending>
+pub(crate) fn store<S: Shelf>(shelf: &mut S, name: &str, bytes: &[u8]) -> Result<(), Ending>
     ensures stored { (files : Files) → S.known_files shelf.old ≡ Some files
         → StoresFile result files name.now bytes.now (S.known_files shelf.new) }
     ensures fails { OnlyFails result }
@@ -249,8 +249,8 @@ fn settle<S: Shelf>(
     proof: &str,
     found: &Outcome,
 ) -> Result<Reply, Ending>
-    requires says { (m : Aim) × IsOutcome m design.now.station steps.count budgets found.now
-        × (names_within m.base design.now.station ≡ true) }
+    requires says { (m : Aim) × (names_within m.base design.now.station ≡ true)
+        × IsOutcome m design.now.station steps.count budgets found.now }
     requires room { budgets.log_bytes ≡ limit_of InputFile.Proof }
     ensures replies { Replies result
         (reply_for_outcome design.now.station steps.count budgets.conflicts budgets.ticks found.now) }

@@ -1,8 +1,8 @@
-//! The lines that are printed of a search and of a trial, each with its LF. An error is want of memory.
+//! The lines that are printed of searches and of a trial, each with its LF. An error is want of memory.
 
 ghost use Rattle.std.specs.Prelude.{◌≡◌, ◌++◌, length, decimal, IfOk, OnOk};
 ghost use Rattle.rail_cli.specs.Texts.{plan_steps_line, infeasible_line, conflicts_spent_line, ticks_spent_line};
-ghost use Rattle.rail_cli.specs.Texts.{log_spent_line, trial_line, counts_line, plan_tick_line};
+ghost use Rattle.rail_cli.specs.Texts.{log_spent_line, tightest_line, trial_line, counts_line, plan_tick_line};
 
 use cli_shell::counted_line;
 use interlocking::Interlocking;
@@ -51,6 +51,17 @@ pub(crate) fn log_spent_line(alloc: Global, bytes: u64, next: u64) -> Result<Vec
     put_number(&mut line, bytes)?;
     line.extend_from_slice(b" next ")?;
     put_number(&mut line, next)?;
+    line.push(b'\n')?;
+    Ok(line)
+}
+
+/// `tightest within <w> ms <ms>`
+pub(crate) fn tightest_line(alloc: Global, within: u32, ms: u64) -> Result<Vec<u8>, AllocError>
+    ensures { IfOk result (λ line. line.items ≡ tightest_line within ms) }
+{
+    let mut line = Vec::new(alloc);
+    put_counted(&mut line, b"tightest within ", u64::from(within))?;
+    put_counted(&mut line, b" ms ", ms)?;
     line.push(b'\n')?;
     Ok(line)
 }

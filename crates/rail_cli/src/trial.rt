@@ -10,11 +10,10 @@ ghost use Rattle.verify_loop.specs.Outcomes.{IsOutcome, Fits};
 ghost use Rattle.verify_loop.specs.Telling.{TellsHowFar};
 ghost use Rattle.workload.specs.Made.{made};
 ghost use Rattle.cli_shell.specs.Statuses.{is_answered};
-ghost use Rattle.rail_cli.specs.Answers.{aim_of, trial_conflicts, trial_ticks, three_lines, reply_for_trial};
+ghost use Rattle.rail_cli.specs.Answers.{aim_of, budgets_of, trial_conflicts, trial_ticks, three_lines, reply_for_trial};
 ghost use Rattle.cli_shell.specs.Shows.{verdict_at_horizon};
 ghost use Rattle.cli_shell.specs.Replies.{RepliesWith, OnlyRefuses};
 ghost use Rattle.rail_cli.specs.Replies.{deciding_tick, RepliesTrial};
-ghost use Rattle.rail_cli.specs.Searches.{budgets_of};
 ghost use Rattle.rail_cli.specs.Texts.{plan_tick_line};
 
 use crate::searching::{aim_of, budgets};

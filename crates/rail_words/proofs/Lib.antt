@@ -8,7 +8,12 @@ pub mod Freely
 pub mod Normally
 pub mod Watched
 pub mod Trials
+pub mod Tightest
+pub mod TightestBounded
+pub mod TightestWatched
+pub mod CheckedInTime
 pub mod Taken
+pub mod Timed
 pub mod Ranges
 pub mod Values
 pub mod Entered

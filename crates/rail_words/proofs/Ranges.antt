@@ -5,7 +5,9 @@ use Rattle.std.specs.Str.Parse.{digits_value}
 use Rattle.rail_text.specs.Numbers.{is_numeral, number_of}
 use Rattle.rail_words.specs.FixedCommand.{rcv_app, is_taken}
 use Rattle.rail_words.specs.declared.request.SearchMode.{SearchMode}
-use Rattle.rail_words.specs.Requests.{RequestSeen, simulate, routes, verify, check, trial, IsRequestInRange, simulate_with, routes_with, verify_within, verify_with, check_with, trial_within, trial_with, steps_of, conflicts_of, ticks_of, seed_of, size_of, asked_by, is_given, mode_of, request_of}
+use Rattle.rail_words.specs.declared.request.InTime.{InTime}
+use Rattle.rail_words.specs.Requests.{RequestSeen, simulate, routes, verify, tightest, check, trial, IsInTimeInRange, IsRequestInRange, simulate_with, routes_with, verify_within, verify_with, tightest_within, tightest_with, in_time, in_time_of, in_time_with, check_within, check_with, trial_within, trial_with}
+use Rattle.rail_words.specs.Requests.{steps_of, conflicts_of, ticks_of, within_of, max_ms_of, seed_of, size_of, simulate_by, routes_by, verify_by, tightest_by, check_by, trial_by, asked_by, is_given, mode_of, request_of}
 use Rattle.rail_words.specs.Laws.{RequestsAreInRange}
 use Rattle.rail_words.specs.Words.{request_seen}
 use Rattle.rail_words.specs.declared.request.Request.{Request}
@@ -34,15 +36,62 @@ fits numeral value n e = go (numeral && nat_lt value (2 ^ 64)) refl e
 seed_fits : (text : Text) (n : ℕ) → seed_of text ≡ Some n → n ≤ 18446744073709551615
 seed_fits text n e = fits (is_numeral text) (digits_value 10 text) n e
 
-check_made : (steps : Option ℕ) (design proof : Text) (a : RequestSeen) → ((n : ℕ) → steps ≡ Some n → (1 ≤ n) × (n ≤ 256)) → option_map (λ n. check n design proof) steps ≡ Some a → IsRequestInRange a
-check_made None design proof a h e = absurd (cc)
-check_made (Some n) design proof a h e = let same : check n design proof ≡ a = cc in subst IsRequestInRange same (h n refl)
+-- a greatest time is in range
+time_fits : (found : Option ℕ) (n : ℕ) → option_and_then (λ k. if nat_le k 86400000 then Some k else None) found ≡ Some n → n ≤ 86400000
+time_fits None n e = absurd (cc)
+time_fits (Some k) n e = go (nat_le k 86400000) refl e
+  where
+    go : (b : Bool) → nat_le k 86400000 ≡ b → (if b then Some k else None) ≡ Some n → n ≤ 86400000
+    go true h e = (let same : k ≡ n = cc in subst (λ m. m ≤ 86400000) same (leb-true k 86400000 h))
+    go false h e = absurd (cc)
 
-checked_so : (steps design proof : Option Text) (a : RequestSeen) → check_with steps design proof ≡ Some a → IsRequestInRange a
-checked_so None design proof a e = absurd (cc)
-checked_so (Some steps) None proof a e = absurd (cc)
-checked_so (Some steps) (Some design) None a e = absurd (cc)
-checked_so (Some steps) (Some design) (Some proof) a e = check_made (steps_of steps) design proof a (λ n h. kept 256 (number_of steps) n h) e
+in_time_made : (within max_ms : Option ℕ) → ((n : ℕ) → within ≡ Some n → (1 ≤ n) × (n ≤ 256)) → ((n : ℕ) → max_ms ≡ Some n → n ≤ 86400000) → IsInTimeInRange (in_time within max_ms)
+in_time_made None max_ms h i = tt
+in_time_made (Some w) None h i = tt
+in_time_made (Some w) (Some m) h i = ((h w refl).0, (h w refl).1, i m refl)
+
+in_time_so : (within max_ms : Text) → IsInTimeInRange (in_time_of within max_ms)
+in_time_so within max_ms = in_time_made (within_of within) (max_ms_of max_ms) (λ n h. kept 256 (number_of within) n h) (λ n h. time_fits (number_of max_ms) n h)
+
+timed_so : (within max_ms : Option Text) (time : Option InTime) → in_time_with within max_ms ≡ Some time → IsInTimeInRange time
+timed_so None None time e = let same : None ≡ time = cc in subst IsInTimeInRange same tt
+timed_so None (Some m) time e = absurd (cc)
+timed_so (Some w) None time e = absurd (cc)
+timed_so (Some w) (Some m) time e = go (in_time_of w m) (in_time_so w m) e
+  where
+    go : (found : Option InTime) → IsInTimeInRange found → option_map Some found ≡ Some time → IsInTimeInRange time
+    go None h e = absurd (cc)
+    go (Some t) h e = let same : Some t ≡ time = cc in subst IsInTimeInRange same h
+
+check_made : (steps : Option ℕ) (time : Option (Option InTime)) (design proof : Text) (a : RequestSeen) → ((n : ℕ) → steps ≡ Some n → (1 ≤ n) × (n ≤ 256)) → ((t : Option InTime) → time ≡ Some t → IsInTimeInRange t) → check_within steps time design proof ≡ Some a → IsRequestInRange a
+check_made None time design proof a h i e = absurd (cc)
+check_made (Some n) None design proof a h i e = absurd (cc)
+check_made (Some n) (Some time) design proof a h i e = let same : check n time design proof ≡ a = cc in subst IsRequestInRange same ((h n refl).0, (h n refl).1, i time refl)
+
+checked_so : (steps : Option Text) (time : Option (Option InTime)) (design proof : Option Text) (a : RequestSeen) → ((t : Option InTime) → time ≡ Some t → IsInTimeInRange t) → check_with steps time design proof ≡ Some a → IsRequestInRange a
+checked_so None time design proof a i e = absurd (cc)
+checked_so (Some steps) time None proof a i e = absurd (cc)
+checked_so (Some steps) time (Some design) None a i e = absurd (cc)
+checked_so (Some steps) time (Some design) (Some proof) a i e = check_made (steps_of steps) time design proof a (λ n h. kept 256 (number_of steps) n h) i e
+
+tightest_made : (steps conflicts ticks within : Option ℕ) (bounds : Bool) (design proof : Text) (a : RequestSeen) → ((n : ℕ) → steps ≡ Some n → (1 ≤ n) × (n ≤ 256)) → ((n : ℕ) → within ≡ Some n → (1 ≤ n) × (n ≤ 256)) → tightest_within steps conflicts ticks within bounds design proof ≡ Some a → IsRequestInRange a
+tightest_made None conflicts ticks within bounds design proof a h i e = absurd (cc)
+tightest_made (Some n) None ticks within bounds design proof a h i e = absurd (cc)
+tightest_made (Some n) (Some c) None within bounds design proof a h i e = absurd (cc)
+tightest_made (Some n) (Some c) (Some t) None bounds design proof a h i e = absurd (cc)
+tightest_made (Some n) (Some c) (Some t) (Some w) bounds design proof a h i e =
+    let same : tightest n c t w bounds design proof ≡ a = cc in
+    subst IsRequestInRange same ((h n refl).0, (h n refl).1, (i w refl).0, (i w refl).1)
+
+tightened_so : (steps conflicts ticks within : Option Text) (bounds : Bool) (design proof : Option Text) (a : RequestSeen) → tightest_with steps conflicts ticks within bounds design proof ≡ Some a → IsRequestInRange a
+tightened_so None conflicts ticks within bounds design proof a e = absurd (cc)
+tightened_so (Some s) None ticks within bounds design proof a e = absurd (cc)
+tightened_so (Some s) (Some c) None within bounds design proof a e = absurd (cc)
+tightened_so (Some s) (Some c) (Some t) None bounds design proof a e = absurd (cc)
+tightened_so (Some s) (Some c) (Some t) (Some w) bounds None proof a e = absurd (cc)
+tightened_so (Some s) (Some c) (Some t) (Some w) bounds (Some design) None a e = absurd (cc)
+tightened_so (Some s) (Some c) (Some t) (Some w) bounds (Some design) (Some proof) a e =
+    tightest_made (steps_of s) (conflicts_of c) (ticks_of t) (within_of w) bounds design proof a (λ n h. kept 256 (number_of s) n h) (λ n h. kept 256 (number_of w) n h) e
 
 verify_made : (steps conflicts ticks : Option ℕ) (mode : Option SearchMode) (design proof : Text) (a : RequestSeen) → ((n : ℕ) → steps ≡ Some n → (1 ≤ n) × (n ≤ 256)) → verify_within steps conflicts ticks mode design proof ≡ Some a → IsRequestInRange a
 verify_made None conflicts ticks mode design proof a h e = absurd (cc)
@@ -78,22 +127,43 @@ tried_so None size a e = absurd (cc)
 tried_so (Some seed) None a e = absurd (cc)
 tried_so (Some seed) (Some size) a e = trial_made (seed_of seed) (size_of size) a (seed_fits seed) (λ n h. kept 6 (number_of size) n h) e
 
-chosen : (first second third fourth fifth : Bool) (mode : Option SearchMode) (design plan file steps conflicts ticks of proof seed size : Option Text) (a : RequestSeen)
-    → (if first then simulate_with design plan else if second then routes_with file else if third then verify_with steps conflicts ticks mode of proof else if fourth then check_with steps of proof else if fifth then trial_with seed size else None) ≡ Some a → IsRequestInRange a
-chosen true second third fourth fifth mode design plan file steps conflicts ticks of proof seed size a e = simulated_so design plan a e
-chosen false true third fourth fifth mode design plan file steps conflicts ticks of proof seed size a e = routed_so file a e
-chosen false false true fourth fifth mode design plan file steps conflicts ticks of proof seed size a e = verified_so steps conflicts ticks mode of proof a e
-chosen false false false true fifth mode design plan file steps conflicts ticks of proof seed size a e = checked_so steps of proof a e
-chosen false false false false true mode design plan file steps conflicts ticks of proof seed size a e = tried_so seed size a e
-chosen false false false false false mode design plan file steps conflicts ticks of proof seed size a e = absurd (cc)
+-- what each subcommand asks for is in range
+by_simulate : (rows : List Row) (a : RequestSeen) → simulate_by rows ≡ Some a → IsRequestInRange a
+by_simulate rows a e = simulated_so (first_of (codes "DESIGN") rows) (first_of (codes "PLAN") rows) a e
+
+by_verify : (rows : List Row) (a : RequestSeen) → verify_by rows ≡ Some a → IsRequestInRange a
+by_verify rows a e =
+    verified_so (first_of (codes "steps") rows) (first_of (codes "conflicts") rows) (first_of (codes "ticks") rows)
+    (mode_of (is_given (codes "bounds") rows) (is_given (codes "any") rows) (is_given (codes "normal") rows)) (first_of (codes "DESIGN") rows) (first_of (codes "PROOF") rows) a e
+
+by_tightest : (rows : List Row) (a : RequestSeen) → tightest_by rows ≡ Some a → IsRequestInRange a
+by_tightest rows a e =
+    tightened_so (first_of (codes "steps") rows) (first_of (codes "conflicts") rows) (first_of (codes "ticks") rows)
+    (first_of (codes "within") rows) (is_given (codes "bounds") rows) (first_of (codes "DESIGN") rows) (first_of (codes "PROOF") rows) a e
+
+by_check : (rows : List Row) (a : RequestSeen) → check_by rows ≡ Some a → IsRequestInRange a
+by_check rows a e =
+    checked_so (first_of (codes "steps") rows) (in_time_with (first_of (codes "within") rows) (first_of (codes "max-ms") rows)) (first_of (codes "DESIGN") rows) (first_of (codes "PROOF") rows) a
+    (timed_so (first_of (codes "within") rows) (first_of (codes "max-ms") rows)) e
+
+by_trial : (rows : List Row) (a : RequestSeen) → trial_by rows ≡ Some a → IsRequestInRange a
+by_trial rows a e = tried_so (first_of (codes "SEED") rows) (first_of (codes "SIZE") rows) a e
+
+chosen : (first second third fourth fifth sixth : Bool) (rows : List Row) (a : RequestSeen)
+    → (if first then simulate_by rows else if second then routes_by rows else if third then verify_by rows else if fourth then tightest_by rows else if fifth then check_by rows else if sixth then trial_by rows else None) ≡ Some a → IsRequestInRange a
+chosen true second third fourth fifth sixth rows a e = by_simulate rows a e
+chosen false true third fourth fifth sixth rows a e = routed_so (first_of (codes "DESIGN") rows) a e
+chosen false false true fourth fifth sixth rows a e = by_verify rows a e
+chosen false false false true fifth sixth rows a e = by_tightest rows a e
+chosen false false false false true sixth rows a e = by_check rows a e
+chosen false false false false false true rows a e = by_trial rows a e
+chosen false false false false false false rows a e = absurd (cc)
 
 named : (entered : Option (Text × List Row)) (a : RequestSeen) → option_and_then asked_by entered ≡ Some a → IsRequestInRange a
 named None a e = absurd (cc)
 named (Some entered) a e =
-    chosen (bytes_eq entered.0 (codes "simulate")) (bytes_eq entered.0 (codes "routes")) (bytes_eq entered.0 (codes "verify")) (bytes_eq entered.0 (codes "check")) (bytes_eq entered.0 (codes "trial")) (mode_of (is_given (codes "bounds") entered.1) (is_given (codes "any") entered.1) (is_given (codes "normal") entered.1))
-    (first_of (codes "DESIGN") entered.1) (first_of (codes "PLAN") entered.1) (first_of (codes "DESIGN") entered.1)
-    (first_of (codes "steps") entered.1) (first_of (codes "conflicts") entered.1) (first_of (codes "ticks") entered.1) (first_of (codes "DESIGN") entered.1) (first_of (codes "PROOF") entered.1)
-    (first_of (codes "SEED") entered.1) (first_of (codes "SIZE") entered.1) a e
+    chosen (bytes_eq entered.0 (codes "simulate")) (bytes_eq entered.0 (codes "routes")) (bytes_eq entered.0 (codes "verify")) (bytes_eq entered.0 (codes "tightest")) (bytes_eq entered.0 (codes "check")) (bytes_eq entered.0 (codes "trial"))
+    entered.1 a e
 
 taken_so : (taken : Bool) (entered : Option (Text × List Row)) (a : RequestSeen) → (if taken then option_and_then asked_by entered else None) ≡ Some a → IsRequestInRange a
 taken_so true entered a e = named entered a e

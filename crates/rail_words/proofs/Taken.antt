@@ -8,7 +8,7 @@ use Rattle.clap.proofs.OnLiterals.{clap_on_literals}
 use Rattle.clap.specs.Words.{Row, Text, first_of, subcommand_of, fault_of}
 use Rattle.rail_words.specs.FixedCommand.{rcv_app}
 use Rattle.rail_words.specs.Requests.{request_of, number_to, steps_of, conflicts_of, ticks_of, seed_of, size_of, is_given, is_watched, mode_of, verify, check, trial}
-use Rattle.rail_words.proofs.Walks.{level, steps_read, design_read, proof_read, check_rows, check_top}
+use Rattle.rail_words.proofs.Walks.{level, steps_read, no_within, no_max_ms, design_read, proof_read, check_rows, check_top}
 use Rattle.rail_words.proofs.Searches as search
 use Rattle.rail_words.proofs.Bounded as bounded
 use Rattle.rail_words.proofs.Freely as freely
@@ -19,7 +19,7 @@ use Rattle.rail_words.specs.declared.request.SearchMode.{SearchMode}
 use Rattle.rail_words.specs.declared.request.SearchMode.TheVariants.{Plain, Bounds, Any, Normal}
 use Rattle.rail_words.specs.Laws.{is_plain, verify_words, bounds_words, any_words, normal_words, progress_words, SimulateIsRead, RoutesIsRead, VerifyIsRead, BoundsAreRead, AnyIsRead, NormalIsRead, ProgressIsRead, OthersAreQuiet, CheckIsRead, TrialIsRead}
 
-off : (b : Bool) → not b ≡ true → b ≡ false
+pub off : (b : Bool) → not b ≡ true → b ≡ false
 off true h = absurd (false≢true h)
 off false h = refl
 
@@ -50,7 +50,7 @@ hyphen x xs h =
     rw no_numeral refl
 
 -- a number does not
-number_plain : (text : Text) (n : ℕ) → number_of text ≡ Some n → is_plain text ≡ true
+pub number_plain : (text : Text) (n : ℕ) → number_of text ≡ Some n → is_plain text ≡ true
 number_plain [] n e = absurd (cc)
 number_plain (x ∷ xs) n e = go (x == 45) refl
   where
@@ -58,7 +58,7 @@ number_plain (x ∷ xs) n e = go (x == 45) refl
     go true h = (let f = hyphen x xs h in absurd (cc))
     go false h = refl
 
-digits_plain : (greatest : ℕ) (text : Text) (n : ℕ) → number_to greatest text ≡ Some n → is_plain text ≡ true
+pub digits_plain : (greatest : ℕ) (text : Text) (n : ℕ) → number_to greatest text ≡ Some n → is_plain text ≡ true
 digits_plain greatest [] n e = absurd (cc)
 digits_plain greatest (x ∷ xs) n e = go (x == 45) refl
   where
@@ -68,9 +68,10 @@ digits_plain greatest (x ∷ xs) n e = go (x == 45) refl
 
 -- what is read of the rows
 read_rows : (words : List Text) (rows : List Row) (steps design proof : Text) (n : ℕ) → fault_of rcv_app words ≡ [] → subcommand_of rcv_app words ≡ Some (codes "check", rows)
-    → first_of (codes "steps") rows ≡ Some steps → first_of (codes "DESIGN") rows ≡ Some design → first_of (codes "PROOF") rows ≡ Some proof → steps_of steps ≡ Some n → request_of words ≡ Some (check n design proof)
+    → first_of (codes "steps") rows ≡ Some steps → first_of (codes "within") rows ≡ None → first_of (codes "max-ms") rows ≡ None → first_of (codes "DESIGN") rows ≡ Some design → first_of (codes "PROOF") rows ≡ Some proof
+    → steps_of steps ≡ Some n → request_of words ≡ Some (check n None design proof)
 unfolding request_of
-read_rows words rows steps design proof n taken named a b c e = rw (taken, named, a, b, c, e) refl
+read_rows words rows steps design proof n taken named a no_within no_max_ms b c e = rw (taken, named, a, no_within, no_max_ms, b, c, e) refl
 
 pub check_read : CheckIsRead
 check_read program [] design proof n e i j = absurd (cc)
@@ -82,7 +83,7 @@ check_read program (x ∷ xs) (y ∷ ys) (z ∷ zs) n h i j =
     let g : (z == 45) ≡ false = off (z == 45) j in
     read_rows (program ∷ codes "check" ∷ codes "--steps" ∷ (x ∷ xs) ∷ (y ∷ ys) ∷ (z ∷ zs) ∷ []) _ (x ∷ xs) (y ∷ ys) (z ∷ zs) n
     (check_top program _ _ _ _ ∙ rw (level x xs y ys z zs e f g) refl) (check_rows program _ _ _ _)
-    (steps_read x xs y ys z zs e f g) (design_read x xs y ys z zs e f g) (proof_read x xs y ys z zs e f g) h
+    (steps_read x xs y ys z zs e f g) (no_within x xs y ys z zs e f g) (no_max_ms x xs y ys z zs e f g) (design_read x xs y ys z zs e f g) (proof_read x xs y ys z zs e f g) h
 
 -- what is read of the rows of a search
 search_rows : (words : List Text) (rows : List Row) (steps conflicts ticks design proof : Text) (n c t : ℕ) (bounds any normal : Bool) (mode : SearchMode) → fault_of rcv_app words ≡ [] → subcommand_of rcv_app words ≡ Some (codes "verify", rows)
@@ -92,10 +93,10 @@ search_rows : (words : List Text) (rows : List Row) (steps conflicts ticks desig
 unfolding request_of
 search_rows words rows steps conflicts ticks design proof n c t bounds any normal mode taken named a b e flag other third way f g h i j = rw (taken, named, a, b, e, flag, other, third, way, f, g, h, i, j) refl
 
--- whether the rows of a search ask to be told
-told : (words : List Text) (rows : List Row) (given : Bool) → fault_of rcv_app words ≡ [] → subcommand_of rcv_app words ≡ Some (codes "verify", rows) → is_given (codes "progress") rows ≡ given → is_watched words ≡ given
+-- whether the rows of a subcommand ask to be told
+pub told : (words : List Text) (name : Text) (rows : List Row) (given : Bool) → fault_of rcv_app words ≡ [] → subcommand_of rcv_app words ≡ Some (name, rows) → is_given (codes "progress") rows ≡ given → is_watched words ≡ given
 unfolding is_watched
-told words rows given taken named is = rw (taken, named) is
+told words name rows given taken named is = rw (taken, named) is
 
 pub verify_read : VerifyIsRead
 verify_read program [] conflicts ticks design proof n c t p q r i j = absurd (cc)
@@ -164,7 +165,7 @@ progress_read program (x ∷ xs) (u ∷ us) (v ∷ vs) (y ∷ ys) (z ∷ zs) n c
           (watched.progress_top program _ _ _ _ _ _ _ _ _ ∙ rw (watched.level x xs u us v vs y ys z zs a b d f g) refl) (watched.progress_rows program _ _ _ _ _ _ _ _ _)
           (watched.steps_read x xs u us v vs y ys z zs a b d f g) (watched.conflicts_read x xs u us v vs y ys z zs a b d f g) (watched.ticks_read x xs u us v vs y ys z zs a b d f g)
           (watched.no_bounds x xs u us v vs y ys z zs a b d f g) (watched.not_any x xs u us v vs y ys z zs a b d f g) (watched.not_normal x xs u us v vs y ys z zs a b d f g) refl (watched.design_read x xs u us v vs y ys z zs a b d f g) (watched.proof_read x xs u us v vs y ys z zs a b d f g) p q r,
-      told (progress_words program (x ∷ xs) (u ∷ us) (v ∷ vs) (y ∷ ys) (z ∷ zs)) _ true
+      told (progress_words program (x ∷ xs) (u ∷ us) (v ∷ vs) (y ∷ ys) (z ∷ zs)) (codes "verify") _ true
           (watched.progress_top program _ _ _ _ _ _ _ _ _ ∙ rw (watched.level x xs u us v vs y ys z zs a b d f g) refl) (watched.progress_rows program _ _ _ _ _ _ _ _ _)
           (watched.with_progress x xs u us v vs y ys z zs a b d f g),
     )
@@ -181,16 +182,16 @@ others_quiet program (x ∷ xs) (u ∷ us) (v ∷ vs) (y ∷ ys) (z ∷ zs) n c 
     let d : (v == 45) ≡ false = off (v == 45) (digits_plain 1000000000000 (v ∷ vs) t r) in
     let f : (y == 45) ≡ false = off (y == 45) i in
     let g : (z == 45) ≡ false = off (z == 45) j in (
-      told (verify_words program (x ∷ xs) (u ∷ us) (v ∷ vs) (y ∷ ys) (z ∷ zs)) _ false
+      told (verify_words program (x ∷ xs) (u ∷ us) (v ∷ vs) (y ∷ ys) (z ∷ zs)) (codes "verify") _ false
           (search.verify_top program _ _ _ _ _ _ _ _ ∙ rw (search.level x xs u us v vs y ys z zs a b d f g) refl) (search.verify_rows program _ _ _ _ _ _ _ _)
           (search.no_progress x xs u us v vs y ys z zs a b d f g),
-      told (bounds_words program (x ∷ xs) (u ∷ us) (v ∷ vs) (y ∷ ys) (z ∷ zs)) _ false
+      told (bounds_words program (x ∷ xs) (u ∷ us) (v ∷ vs) (y ∷ ys) (z ∷ zs)) (codes "verify") _ false
           (bounded.bounds_top program _ _ _ _ _ _ _ _ _ ∙ rw (bounded.level x xs u us v vs y ys z zs a b d f g) refl) (bounded.bounds_rows program _ _ _ _ _ _ _ _ _)
           (bounded.no_progress x xs u us v vs y ys z zs a b d f g),
-      told (any_words program (x ∷ xs) (u ∷ us) (v ∷ vs) (y ∷ ys) (z ∷ zs)) _ false
+      told (any_words program (x ∷ xs) (u ∷ us) (v ∷ vs) (y ∷ ys) (z ∷ zs)) (codes "verify") _ false
           (freely.any_top program _ _ _ _ _ _ _ _ _ _ ∙ rw (freely.level x xs u us v vs y ys z zs a b d f g) refl) (freely.any_rows program _ _ _ _ _ _ _ _ _ _)
           (freely.no_progress x xs u us v vs y ys z zs a b d f g),
-      told (normal_words program (x ∷ xs) (u ∷ us) (v ∷ vs) (y ∷ ys) (z ∷ zs)) _ false
+      told (normal_words program (x ∷ xs) (u ∷ us) (v ∷ vs) (y ∷ ys) (z ∷ zs)) (codes "verify") _ false
           (normally.normal_top program _ _ _ _ _ _ _ _ _ ∙ rw (normally.level x xs u us v vs y ys z zs a b d f g) refl) (normally.normal_rows program _ _ _ _ _ _ _ _ _)
           (normally.no_progress x xs u us v vs y ys z zs a b d f g),
     )

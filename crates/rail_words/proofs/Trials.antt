@@ -11,7 +11,7 @@ use Rattle.rail_words.specs.Requests.{is_given}
 use Rattle.rail_words.proofs.Walks.{stand, plain_walked, plain_turn}
 
 abbrev pub leaf : Shape
-leaf = slice_index_or (built rcv_app).subs 4 trial_app.top
+leaf = slice_index_or (built rcv_app).subs 5 trial_app.top
 
 abbrev after : Walk → Text → Walk
 after w word = after_step leaf.rules word w (plain_word leaf.rules w.waiting word w.held).0 (plain_word leaf.rules w.waiting word w.held).1

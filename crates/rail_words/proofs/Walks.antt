@@ -30,7 +30,7 @@ module _ (s : Shape) (h : Held) (position : ℕ) (x : ℕ) (xs : Text) (e : (x =
 -- ---- `check`
 
 abbrev pub leaf : Shape
-leaf = slice_index_or (built rcv_app).subs 3 check_app.top
+leaf = slice_index_or (built rcv_app).subs 4 check_app.top
 
 start : walked leaf.rules [] (walk_from nothing_held) (codes "--steps") ≡ stand (record { rows = []; pending = Some (codes "steps", []); skip = 0 }) (option (codes "steps")) 1
 unfolding clap_on_literals
@@ -40,7 +40,7 @@ start_turn : turn_fault leaf [] (walk_from nothing_held) (codes "--steps") ≡ [
 unfolding clap_on_literals
 start_turn = refl
 
-abbrev after : Walk → Text → Walk
+abbrev pub after : Walk → Text → Walk
 after w word = after_step leaf.rules word w (plain_word leaf.rules w.waiting word w.held).0 (plain_word leaf.rules w.waiting word w.held).1
 
 module _ (x : ℕ) (xs : Text) (y : ℕ) (ys : Text) (z : ℕ) (zs : Text) (e : (x == 45) ≡ false) (f : (y == 45) ≡ false) (g : (z == 45) ≡ false) where
@@ -96,6 +96,14 @@ module _ (x : ℕ) (xs : Text) (y : ℕ) (ys : Text) (z : ℕ) (zs : Text) (e : 
 
   pub proof_read : first_of (codes "PROOF") (rows_after leaf.rules [] words) ≡ Some (z ∷ zs)
   proof_read = rw walk_is refl
+
+  pub no_within : first_of (codes "within") (rows_after leaf.rules [] words) ≡ None
+  unfolding clap_on_literals
+  no_within = rw walk_is refl
+
+  pub no_max_ms : first_of (codes "max-ms") (rows_after leaf.rules [] words) ≡ None
+  unfolding clap_on_literals
+  no_max_ms = rw walk_is refl
 
 -- the rows of the subcommand
 pub check_rows : (program a b c d : Text) → subcommand_of rcv_app (program ∷ codes "check" ∷ a ∷ b ∷ c ∷ d ∷ []) ≡ Some (codes "check", rows_after leaf.rules [] (a ∷ b ∷ c ∷ d ∷ []))

@@ -11,6 +11,10 @@ positional_rule name = record (new_rule name) { required = true }
 abbrev pub option_rule : Text → Rule
 option_rule name = record (new_rule name) { long = Some name; required = true }
 
+-- an option with a value, which may be left out
+abbrev pub choice_rule : Text → Rule
+choice_rule name = record (new_rule name) { long = Some name }
+
 -- a flag, which takes no value and may be left out
 abbrev pub flag_rule : Text → Rule
 flag_rule name = record (new_rule name) { long = Some name; action = Some SetTrue }
@@ -22,6 +26,10 @@ with_value app name = with_rule app (positional_rule name)
 -- a command that takes one more option
 abbrev pub with_option : App → Text → App
 with_option app name = with_rule app (option_rule name)
+
+-- a command that takes one more option, which may be left out
+abbrev pub with_choice : App → Text → App
+with_choice app name = with_rule app (choice_rule name)
 
 -- a command that takes one more flag
 abbrev pub with_flag : App → Text → App
@@ -35,26 +43,39 @@ simulate_app = with_value (with_value (new_app (codes "simulate")) (codes "DESIG
 abbrev pub routes_app : App
 routes_app = with_value (new_app (codes "routes")) (codes "DESIGN")
 
--- `verify --steps N --conflicts C --ticks T`, before its flags and its files
-abbrev pub verify_options_app : App
-verify_options_app =
-    with_option (with_option (with_option (new_app (codes "verify")) (codes "steps")) (codes "conflicts"))
-    (codes "ticks")
+-- a search by its name, `--steps N --conflicts C --ticks T`, before its flags and its files
+abbrev pub search_app : Text → App
+search_app name =
+    with_option (with_option (with_option (new_app name) (codes "steps")) (codes "conflicts")) (codes "ticks")
 
--- with the flags `[--bounds] [--any] [--normal] [--progress]`
+-- `verify` with the flags `[--bounds] [--any] [--normal] [--progress]`
 abbrev pub verify_flags_app : App
 verify_flags_app =
-    with_flag (with_flag (with_flag (with_flag verify_options_app (codes "bounds")) (codes "any")) (codes "normal"))
-    (codes "progress")
+    with_flag (with_flag (with_flag (with_flag (search_app (codes "verify")) (codes "bounds")) (codes "any"))
+    (codes "normal")) (codes "progress")
 
 -- `verify --steps N --conflicts C --ticks T [--bounds] [--any] [--normal] [--progress] DESIGN PROOF`
 abbrev pub verify_app : App
 verify_app = with_value (with_value verify_flags_app (codes "DESIGN")) (codes "PROOF")
 
--- `check --steps N DESIGN PROOF`
+-- `tightest` with its option `--within W` and its flags `[--bounds] [--progress]`
+abbrev pub tightest_flags_app : App
+tightest_flags_app =
+    with_flag (with_flag (with_option (search_app (codes "tightest")) (codes "within")) (codes "bounds"))
+    (codes "progress")
+
+-- `tightest --steps N --conflicts C --ticks T --within W [--bounds] [--progress] DESIGN PROOF`
+abbrev pub tightest_app : App
+tightest_app = with_value (with_value tightest_flags_app (codes "DESIGN")) (codes "PROOF")
+
+-- `check [--within W] [--max-ms X] --steps N`, before its files
+abbrev pub check_options_app : App
+check_options_app =
+    with_option (with_choice (with_choice (new_app (codes "check")) (codes "within")) (codes "max-ms")) (codes "steps")
+
+-- `check [--within W] [--max-ms X] --steps N DESIGN PROOF`
 abbrev pub check_app : App
-check_app =
-    with_value (with_value (with_option (new_app (codes "check")) (codes "steps")) (codes "DESIGN")) (codes "PROOF")
+check_app = with_value (with_value check_options_app (codes "DESIGN")) (codes "PROOF")
 
 -- `trial [--progress] SEED SIZE`
 abbrev pub trial_app : App
@@ -67,9 +88,13 @@ top_app = record (new_app (codes "rcv")) { top = record (new_app (codes "rcv")).
 abbrev pub numberless_app : App
 numberless_app = with_subcommand (with_subcommand top_app simulate_app.top) routes_app.top
 
+-- with the searches
+abbrev pub searches_app : App
+searches_app = with_subcommand (with_subcommand numberless_app verify_app.top) tightest_app.top
+
 -- with the commands that name files
 abbrev pub files_app : App
-files_app = with_subcommand (with_subcommand numberless_app verify_app.top) check_app.top
+files_app = with_subcommand searches_app check_app.top
 
 abbrev pub rcv_app : App
 rcv_app = with_subcommand files_app trial_app.top

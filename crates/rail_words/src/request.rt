@@ -5,11 +5,13 @@ ghost use Rattle.std.specs.Prelude.{codes};
 ghost use Rattle.std.specs.Option.{option_map_or};
 ghost use Rattle.clap.specs.Words.{first_of, rows_of, found_of, subcommand_of, subcommand_rows_of};
 ghost use Rattle.rail_words.specs.FixedCommand.{rcv_app, is_taken};
-ghost use Rattle.rail_words.specs.Requests.{IsRequestInRange, asked_by, check_with, conflicts_of, is_given, mode_of, number_to};
+ghost use Rattle.rail_words.specs.Requests.{IsInTimeInRange, IsRequestInRange, asked_by, check_with, conflicts_of, is_given};
+ghost use Rattle.rail_words.specs.Requests.{in_time, in_time_of, in_time_with, max_ms_of, mode_of, number_to, within_of};
 ghost use Rattle.rail_words.specs.Requests.{request_of, is_watched, is_watched_by};
-ghost use Rattle.rail_words.specs.Requests.{simulate_by, routes_by, verify_by, check_by, trial_by};
+ghost use Rattle.rail_words.specs.Requests.{simulate_by, routes_by, verify_by, tightest_by, check_by, trial_by};
 ghost use Rattle.rail_words.specs.Requests.{simulate_with, steps_of, ticks_of, routes_with, seed_of, size_of};
 ghost use Rattle.rail_words.specs.Requests.{trial_with, trial_within, verify_with, verify_within};
+ghost use Rattle.rail_words.specs.Requests.{check_within, tightest_with, tightest_within};
 ghost use Rattle.rail_words.specs.Words.{request_seen, texts_of};
 ghost use Rattle.rail_words.specs.declared.request.WordsFault.TheVariants as fault;
 
@@ -34,6 +36,15 @@ pub enum SearchMode {
     Normal,
 }
 
+/// A greatest time that is put into a within.
+#[derive(Clone, Copy, Debug, PartialEq, Eq)]
+pub struct InTime {
+    /// Which within of the design, 1 to 256.
+    pub within: u32,
+    /// The time in ms, at most 86,400,000.
+    pub max_ms: u32,
+}
+
 /// What is asked of the program.
 #[derive(Clone, Copy, Debug, PartialEq, Eq)]
 pub enum Request<'a> {
@@ -56,10 +67,23 @@ pub enum Request<'a> {
         design: &'a str,
         proof: &'a str,
     },
-    /// Check a proof that a design has no plan of so many steps, 1 to 256, the design and the proof by their files'
-    /// names.
+    /// Look for the least greatest time of a within, 1 to 256, in which there is a plan of at most so many steps, 1 to
+    /// 256, within budgets of derived clauses and of ticks, with bounds or without, or for a proof that there is no plan,
+    /// the design and the proof by their files' names.
+    Tightest {
+        steps: u32,
+        conflicts: u64,
+        ticks: u64,
+        within: u32,
+        bounds: bool,
+        design: &'a str,
+        proof: &'a str,
+    },
+    /// Check a proof that a design, into a within of which a greatest time may be put, has no plan of so many steps, 1
+    /// to 256, the design and the proof by their files' names.
     Check {
         steps: u32,
+        in_time: Option<InTime>,
         design: &'a str,
         proof: &'a str,
     },
@@ -302,6 +326,142 @@ fn verify<'a>(values: &ArgMatches<'a>) -> Option<Request<'a>>
     verify_within(steps, conflicts, ticks, mode, design, proof)
 }
 
+/// The within that a text names, from 1 to 256.
+fn within_of(text: &str) -> Option<u32>
+    ensures { result ≡ within_of text.now }
+{
+    match number(text.as_bytes()) {
+        Some(within) if 1 <= within && within <= 256 => Some(within as u32),
+        _ => None,
+    }
+}
+
+/// The greatest time that a text gives, in ms, at most 86,400,000.
+fn max_ms_of(text: &str) -> Option<u32>
+    ensures { result ≡ max_ms_of text.now }
+{
+    match number(text.as_bytes()) {
+        Some(max_ms) if max_ms <= 86_400_000 => Some(max_ms as u32),
+        _ => None,
+    }
+}
+
+/// What the numbers and names of `tightest` ask for.
+fn tightest_within<'a>(
+    steps: &str,
+    conflicts: &str,
+    ticks: &str,
+    within: &str,
+    bounds: bool,
+    design: &'a str,
+    proof: &'a str,
+) -> Option<Request<'a>>
+    ensures { option_map request_seen result
+        ≡ tightest_within (steps_of steps.now) (conflicts_of conflicts.now) (ticks_of ticks.now)
+        (within_of within.now) bounds design.now proof.now }
+{
+    let Some(steps) = steps_of(steps) else {
+        return None;
+    };
+    let Some(conflicts) = number_to(10_000_000, conflicts) else {
+        return None;
+    };
+    let Some(ticks) = number_to(1_000_000_000_000, ticks) else {
+        return None;
+    };
+    let Some(within) = within_of(within) else {
+        return None;
+    };
+    Some(Request::Tightest {
+        steps,
+        conflicts,
+        ticks,
+        within,
+        bounds,
+        design,
+        proof,
+    })
+}
+
+/// What the values of `tightest` ask for.
+fn tightest<'a>(values: &ArgMatches<'a>) -> Option<Request<'a>>
+    ensures { option_map request_seen result ≡ tightest_by (rows_of (found_of values.now)) }
+{
+    let Some(steps) = value(values, "steps") else {
+        return None;
+    };
+    let Some(conflicts) = value(values, "conflicts") else {
+        return None;
+    };
+    let Some(ticks) = value(values, "ticks") else {
+        return None;
+    };
+    let Some(within) = value(values, "within") else {
+        return None;
+    };
+    let Some(design) = value(values, "DESIGN") else {
+        return None;
+    };
+    let Some(proof) = value(values, "PROOF") else {
+        return None;
+    };
+    let bounds = is_given(values, "bounds");
+    tightest_within(steps, conflicts, ticks, within, bounds, design, proof)
+}
+
+/// The greatest time that two texts put into a within.
+pub fn read_in_time(within: &str, max_ms: &str) -> Option<InTime>
+    ensures ok { result ≡ in_time_of within.now max_ms.now }
+    ensures range { IsInTimeInRange result }
+{
+    let Some(within) = within_of(within) else {
+        return None;
+    };
+    let Some(max_ms) = max_ms_of(max_ms) else {
+        return None;
+    };
+    Some(InTime { within, max_ms })
+}
+
+/// The greatest time that the options of `check` put into a within, if any. One of the two without the other asks for
+/// nothing.
+fn in_time(values: &ArgMatches) -> Option<Option<InTime>>
+    ensures { let rows = rows_of (found_of values.now) in
+        result ≡ in_time_with (first_of (codes "within") rows) (first_of (codes "max-ms") rows) }
+{
+    match (value(values, "within"), value(values, "max-ms")) {
+        (None, None) => Some(None),
+        (Some(within), Some(max_ms)) => match read_in_time(within, max_ms) {
+            Some(time) => Some(Some(time)),
+            None => None,
+        },
+        (Some(_), None) | (None, Some(_)) => None,
+    }
+}
+
+/// What the number, the time and the names of `check` ask for.
+fn check_within<'a>(
+    steps: &str,
+    in_time: Option<Option<InTime>>,
+    design: &'a str,
+    proof: &'a str,
+) -> Option<Request<'a>>
+    ensures { option_map request_seen result ≡ check_within (steps_of steps.now) in_time design.now proof.now }
+{
+    let Some(steps) = steps_of(steps) else {
+        return None;
+    };
+    let Some(in_time) = in_time else {
+        return None;
+    };
+    Some(Request::Check {
+        steps,
+        in_time,
+        design,
+        proof,
+    })
+}
+
 /// What the values of `check` ask for.
 fn check<'a>(values: &ArgMatches<'a>) -> Option<Request<'a>>
     ensures { option_map request_seen result ≡ check_by (rows_of (found_of values.now)) }
@@ -315,14 +475,7 @@ fn check<'a>(values: &ArgMatches<'a>) -> Option<Request<'a>>
     let Some(proof) = value(values, "PROOF") else {
         return None;
     };
-    let Some(steps) = steps_of(text) else {
-        return None;
-    };
-    Some(Request::Check {
-        steps,
-        design,
-        proof,
-    })
+    check_within(text, in_time(values), design, proof)
 }
 
 /// The seed that a text gives.
@@ -383,6 +536,9 @@ fn request_in<'a>(matches: &ArgMatches<'a>) -> Option<Request<'a>>
     }
     if name == "verify" {
         return verify(values);
+    }
+    if name == "tightest" {
+        return tightest(values);
     }
     if name == "check" {
         return check(values);

@@ -1,5 +1,5 @@
 -- How a line is added, or left out, and what that says of a search.
-use Rattle.std.proofs.Common.{◌≡◌, ℕ, zero, suc, ◌+◌, ◌<◌, Bool, List, [], ◌∷◌, filter, get_or, length, slice_index_or, refl, arith, Option, None, Some, MatchOption, Result, Ok, Err, IfOk, IfErr, sym, ap, subst, ◌∙◌}
+use Rattle.std.proofs.Common.{◌≡◌, ℕ, zero, suc, ◌+◌, ◌<◌, Bool, List, [], ◌∷◌, filter, get_or, length, slice_index_or, refl, arith, Option, None, Some, MatchOption, Result, Ok, Err, IfOk, IfErr, Vec, Global, sym, ap, subst, ◌∙◌}
 use Rattle.bound_spec.specs.declared.Evidence.{Evidence}
 use Rattle.clause_spec.specs.declared.question.BaseKind.{BaseKind}
 use Rattle.interlocking.specs.declared.railway.Interlocking.{Interlocking}
@@ -17,11 +17,9 @@ use Rattle.rail_base.specs.declared.station.Station.{Station}
 use Rattle.rail_spec.specs.Track.{routes_of}
 use Rattle.sat_clause.specs.declared.lit.Lit.{Lit}
 use Rattle.verify_loop.specs.Asking.{IsLeftOut}
-use Rattle.verify_loop.specs.Outcomes.{IsFull, IsOutcome}
-use Rattle.verify_loop.specs.declared.outcome.Aim.{Aim}
-use Rattle.verify_loop.specs.declared.outcome.Budgets.{Budgets}
+use Rattle.rail_base.specs.declared.plan.Plan.{Plan}
 use Rattle.verify_loop.specs.declared.outcome.Outcome.{Outcome}
-use Rattle.verify_loop.specs.declared.outcome.Outcome.TheVariants.{Plan, Infeasible, ConflictsSpent, TicksSpent, LogSpent, TooLarge, Memory}
+use Rattle.verify_loop.specs.declared.outcome.Outcome.TheVariants as outcome
 use Rattle.verify_loop.specs.declared.rounds.SearchState.{SearchState}
 
 -- what stands at an index of a list is the same whatever stands for nothing
@@ -46,16 +44,16 @@ pub none_told : {X : Type 0} (o : Option X) (A : Type 0) (P : X → Type 0) → 
 none_told o A P is h = subst (λ z. MatchOption z A P) is h
 
 -- a line is left out where the log is full, or there was no memory
-pub left_out_so : (s : SearchState) (l : EvidenceLine) (m : Aim) (d : Station) (n : ℕ) (b : Budgets) (o : Outcome) → IsLeftOut s l o
-    → ((log : List ℕ) (bytes next : ℕ) → log ≡ s.solver.recorder.bytes.items → bytes ≡ length log → next ≡ length l.line.items + 1 → s.solver.recorder.limit < bytes + next → IsFull m d n b log bytes next)
-    → IsOutcome m d n b o
-left_out_so s l m d n b (LogSpent log bytes next) h full = full log.items bytes next h.0 h.1 h.2 h.3
-left_out_so s l m d n b Memory h full = tt
-left_out_so s l m d n b (Plan plan verdict) h full = absurd h
-left_out_so s l m d n b (Infeasible log) h full = absurd h
-left_out_so s l m d n b (ConflictsSpent log clause hints) h full = absurd h
-left_out_so s l m d n b (TicksSpent failed sum at_hand) h full = absurd h
-left_out_so s l m d n b (TooLarge literals) h full = absurd h
+pub left_out_so : (s : SearchState) (l : EvidenceLine) (Ends : Outcome → Type 0) (o : Outcome) → IsLeftOut s l o
+    → ((log : Vec ℕ Global) (bytes next : ℕ) (failed : Vec Plan Global) → log.items ≡ s.solver.recorder.bytes.items → bytes ≡ length log.items → next ≡ length l.line.items + 1 → s.solver.recorder.limit < bytes + next → failed.items ≡ s.failed.items → Ends (outcome.LogSpent log bytes next failed))
+    → Ends outcome.Memory → Ends o
+left_out_so s l Ends (outcome.LogSpent log bytes next failed) h full none = full log bytes next failed h.0 h.1 h.2 h.3 (ap (λ (f : Vec Plan Global). f.items) h.4)
+left_out_so s l Ends outcome.Memory h full none = none
+left_out_so s l Ends (outcome.Plan plan verdict) h full none = absurd h
+left_out_so s l Ends (outcome.Infeasible log) h full none = absurd h
+left_out_so s l Ends (outcome.ConflictsSpent log clause hints failed) h full none = absurd h
+left_out_so s l Ends (outcome.TicksSpent failed sum at_hand) h full none = absurd h
+left_out_so s l Ends (outcome.TooLarge literals) h full none = absurd h
 
 -- what is said of the parts of a search
 module _ (b : ByDesign) (kind : BaseKind) (i : Interlocking) (n : ℕ) (same_kind : b.kind ≡ kind) (same : b.contention.interlocking.now ≡ i) (same_steps : b.steps.count ≡ n) where

@@ -7,7 +7,7 @@ use Rattle.clause_spec.specs.declared.question.BaseKind.TheVariants.{Plain, Sort
 use Rattle.clause_spec.specs.declared.question.Turns.TheVariants.{All, Beside}
 use Rattle.clause_spec.specs.Clauses.{past_limit}
 use Rattle.plan_exclusion.specs.Exclusions.{question_of}
-use Rattle.verify_loop.specs.declared.outcome.Aim.{Aim}
+use Rattle.verify_loop.specs.Quests.{Quest}
 use Rattle.proof_judge.specs.Judged.{is_asked_of, judged_by, judged_under, names_within}
 use Rattle.proof_log.specs.Heads.{keeps_head, keeps_within}
 use Rattle.proof_log.specs.Words.{is_plain}
@@ -33,14 +33,14 @@ within_plain (Live (Beside w)) d good named =
     let high = leb-true w (length d.withins) (and_right (nat_le 1 w) (nat_le w (length d.withins)) named) in
     le-leb w 999_999_999_999_999_999 (omega arith)
 
-pub kept_so : (m : Aim) (d : Station) (n : ℕ) → IsAdmitted d → n ≤ 256 → names_within m.base d ≡ true → keeps_head (head m d n) ≡ true
+pub kept_so : (m : Quest) (d : Station) (n : ℕ) → IsAdmitted d → n ≤ 256 → names_within m.base d ≡ true → keeps_head (head m d n) ≡ true
 kept_so m d n good few named = and_both (is_plain d.version && is_plain n) (keeps_within m.base) (numbers_plain d n good few) (within_plain m.base d good named)
 
 -- it names the design and the number of steps
-names_own : (m : Aim) (d : Station) (n : ℕ) → names_within m.base d ≡ true → is_asked_of (question_of m.base d n) d n ≡ true
+names_own : (m : Quest) (d : Station) (n : ℕ) → names_within m.base d ≡ true → is_asked_of (question_of m.base d n) d n ≡ true
 names_own m d n named = and_both _ (n == n) (and_both (names_within m.base d) (d.version == d.version) named (eq-eqb d.version d.version refl)) (eq-eqb n n refl)
 
-pub judged_so : (m : Aim) (d : Station) (n : ℕ) (bytes : List ℕ) → names_within m.base d ≡ true → past_limit 16000000 0 (first_clauses m d n) ≡ None → judged_by d n bytes (Some (head m d n)) ≡ judged_under (head m d n) d n bytes
+pub judged_so : (m : Quest) (d : Station) (n : ℕ) (bytes : List ℕ) → names_within m.base d ≡ true → past_limit 16000000 0 (first_clauses m d n) ≡ None → judged_by d n bytes (Some (head m d n)) ≡ judged_under (head m d n) d n bytes
 judged_so m d n bytes named fits =
     ap (λ b. if not b then No 1 HeadDiffers else if is_some (past_limit 16000000 0 (first_clauses m d n)) then No 1 BaseTooLarge else judged_under (head m d n) d n bytes) (names_own m d n named)
     ∙ ap (λ o. if is_some o then No 1 BaseTooLarge else judged_under (head m d n) d n bytes) fits

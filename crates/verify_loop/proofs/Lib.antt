@@ -15,3 +15,14 @@ pub mod Answering
 pub mod Differing
 pub mod Fewer
 pub mod Told
+pub mod Attempts
+pub mod Retiming
+pub mod Alone
+pub mod Timely
+pub mod Lasts
+pub mod LessTime
+pub mod Following
+pub mod Leading
+pub mod Watched
+pub mod Quickest
+pub mod Starting

@@ -1,7 +1,7 @@
 -- What the answers of a solver say of a search that goes on.
 use Rattle.std.proofs.Common.{◌≡◌, ℕ, ◌+◌, ◌-◌, ◌<◌, ◌≤◌, true, false, List, [], ◌∷◌, ◌++◌, map, flat_map, length, nat_le, Option, Some, None, ◌⊎◌, inl, inr, refl, sym, ap, subst, ◌∙◌, arith, append-nil, length-append}
 use Rattle.clause_spec.specs.Clauses.{past_limit}
-use Rattle.verify_loop.specs.declared.outcome.Aim.{Aim}
+use Rattle.verify_loop.specs.Quests.{Quest}
 use Rattle.proof_log.specs.Heads.{keeps_head}
 use Rattle.std.proofs.lemmas.Bool.Decides.{nat_tests}
 use Rattle.log_checker.specs.declared.check_result.CheckResult.TheVariants.{Yes}
@@ -36,7 +36,7 @@ use Rattle.verify_loop.specs.Outcomes.{head, first_clauses, base, vars, plans_of
 use Rattle.verify_loop.specs.Searching.{AllBelow, IsSearch, state_in}
 use Rattle.verify_loop.proofs.Held.{some-same}
 
-module _ (m : Aim) (d : Station) (n : ℕ) (b : Budgets) (some : 1 ≤ n) (store : Store) (recorder : Text) (ids : List ℕ) (solver_vars derives : ℕ) (failed : List Plan) (sum steps : ℕ) (s : IsSearch m d n b store recorder ids solver_vars derives failed sum steps) where
+module _ (m : Quest) (d : Station) (n : ℕ) (b : Budgets) (some : 1 ≤ n) (store : Store) (recorder : Text) (ids : List ℕ) (solver_vars derives : ℕ) (failed : List Plan) (sum steps : ℕ) (s : IsSearch m d n b store recorder ids solver_vars derives failed sum steps) where
   abbrev old : State
   old = state_in store recorder ids derives
 
@@ -109,11 +109,11 @@ module _ (m : Aim) (d : Station) (n : ℕ) (b : Budgets) (some : 1 ≤ n) (store
 
       -- where there is no room for it, the log is full
       pub full_so : (steps < n → HasUnit store (opposite (by_step (vars m d n) steps)) → ⊥) → (clause : List Lit) (hints : List ℕ) (bytes next : ℕ) → derive_count more ≤ b.conflicts - derives → MayFollow new.clauses assumed clause hints → bytes ≡ length new.text → next ≡ length (derive_line clause hints) → has_room new.limit (bytes + next) ≡ false
-          → IsFull m d n b new.text bytes next
+          → IsFull m d n b new.text bytes next failed
       full_so unsaid clause hints bytes next fewer follow e m none = (
         e,
         past (subst (λ (o : Option ℕ). has_room o (bytes + next) ≡ false) (went.limit ∙ ap Some s.limit) none),
-        inr (inr (lines, s.rs, log_so, within_so fewer, inl ((clause, hints), next_so unsaid clause hints follow, m))),
+        inr (inr (lines, s.rs, log_so, within_so fewer, inl ((clause, hints), next_so unsaid clause hints follow, m), s.plans)),
       )
         where
           past : nat_le (bytes + next) b.log_bytes ≡ false → b.log_bytes < bytes + next

@@ -1,6 +1,6 @@
 -- A search that goes on is within its budgets, and so is a plan that it comes to.
 use Rattle.std.proofs.Common.{ℕ, ◌+◌, ◌≤◌, List, [], ◌∷◌, subst, arith}
-use Rattle.verify_loop.specs.declared.outcome.Aim.{Aim}
+use Rattle.verify_loop.specs.Quests.{Quest}
 use Rattle.std.proofs.lemmas.List.Sums.{sum_by-append}
 use Rattle.rail_base.specs.declared.plan.Command.{Command}
 use Rattle.rail_base.specs.declared.plan.Plan.{Plan}
@@ -14,7 +14,7 @@ use Rattle.verify_loop.specs.declared.outcome.Budgets.{Budgets}
 use Rattle.verify_loop.specs.Outcomes.{head, plans_of, IsLog, IsWithin, IsReached}
 use Rattle.verify_loop.specs.Searching.{IsSearch, IsAtPlan}
 
-module _ (m : Aim) (d : Station) (n : ℕ) (b : Budgets) (store : Store) (recorder : Text) (ids : List ℕ) (solver_vars derives : ℕ) (failed : List Plan) (sum steps : ℕ) where
+module _ (m : Quest) (d : Station) (n : ℕ) (b : Budgets) (store : Store) (recorder : Text) (ids : List ℕ) (solver_vars derives : ℕ) (failed : List Plan) (sum steps : ℕ) where
   pub within_so : (s : IsSearch m d n b store recorder ids solver_vars derives failed sum steps) → IsWithin m d n b s.lines (plans_of s.rs)
   within_so s = record { derived = s.learnt; timed = (let so = s.cost in let left = s.left in omega arith) }
 

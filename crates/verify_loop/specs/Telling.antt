@@ -1,5 +1,5 @@
 -- How far a search is, and the line that tells it.
-use Rattle.std.specs.Prelude.{ℕ, ◌≡◌, ◌-◌, nat_le, All, List, [], ◌++◌, length, Option, None, Some, codes, decimal, if◌then◌else◌}
+use Rattle.std.specs.Prelude.{ℕ, ◌≡◌, ◌+◌, ◌-◌, nat_le, All, List, [], ◌++◌, length, Option, None, Some, codes, decimal, if◌then◌else◌}
 use Rattle.rail_base.specs.declared.station.Station.{Station}
 use Rattle.rail_outside.specs.Growth.{grown}
 use Rattle.log_recorder.specs.Logs.{LogLine, learnt_count}
@@ -8,6 +8,7 @@ use Rattle.verify_loop.specs.declared.outcome.Wanted.{Wanted}
 use Rattle.verify_loop.specs.declared.outcome.Wanted.TheVariants.{Fewest, Any}
 use Rattle.verify_loop.specs.declared.progress.Progress.{Progress}
 use Rattle.verify_loop.specs.Outcomes.{HasNoneBelow, IsLog, Refutal, cost_of, plans_of}
+use Rattle.verify_loop.specs.Quests.{Quest, by_itself}
 
 -- ---- the line
 
@@ -28,7 +29,11 @@ abbrev pub none_before : Wanted → ℕ → Option ℕ
 none_before Fewest steps = if nat_le 2 steps then Some (steps - 1) else None
 none_before Any steps = None
 
-module _ (m : Aim) (d : Station) (n : ℕ) where
+-- lines are put each of which tells so
+abbrev pub TellsLines : (List ℕ → Type 0) → Option (List (List ℕ)) → Option (List (List ℕ)) → Type 0
+TellsLines Tells old new = (lines : List (List ℕ)) × All Tells lines × (new ≡ grown old lines)
+
+module _ (m : Quest) (d : Station) (n : ℕ) where
   -- the numbers of a log of the search, and of the plans that failed in it; no plan of fewer steps than it asks for is feasible
   pub record IsProgress (p : Progress) : Type 0 where
     pub lines : List LogLine
@@ -37,7 +42,7 @@ module _ (m : Aim) (d : Station) (n : ℕ) where
     pub log : IsLog m d n lines rs text
     pub derived : p.lines ≡ learnt_count lines
     pub failed : p.failed ≡ length rs
-    pub ticks : p.ticks ≡ cost_of d n (plans_of rs)
+    pub ticks : p.ticks ≡ m.spent + cost_of d n (plans_of rs)
     pub steps : ℕ
     pub none_of : p.none_of ≡ none_before m.wanted steps
     pub fewer : HasNoneBelow m.wanted d steps
@@ -46,6 +51,6 @@ module _ (m : Aim) (d : Station) (n : ℕ) where
   abbrev pub TellsProgress : List ℕ → Type 0
   TellsProgress line = (p : Progress) × IsProgress p × (line ≡ progress_line p)
 
-  -- lines are put each of which does
-  abbrev pub TellsHowFar : Option (List (List ℕ)) → Option (List (List ℕ)) → Type 0
-  TellsHowFar old new = (lines : List (List ℕ)) × All TellsProgress lines × (new ≡ grown old lines)
+-- a search by itself puts lines that tell how far it is
+abbrev pub TellsHowFar : Aim → Station → ℕ → Option (List (List ℕ)) → Option (List (List ℕ)) → Type 0
+TellsHowFar m d n = TellsLines (TellsProgress (by_itself m d n) d n)

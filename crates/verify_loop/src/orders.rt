@@ -1,7 +1,7 @@
 //! What orders say before the first plan.
 
 ghost use Rattle.std.specs.Prelude.{◌≡◌, ◌≤◌, ◌<◌, ◌+◌, [], IfOk, IfErr, length, take};
-ghost use Rattle.verify_loop.specs.Outcomes.{known_first};
+ghost use Rattle.order_bounds.specs.Orders.{orders_first};
 
 use crate::outcome::Outcome;
 use crate::rounds::{PlanSearch, SearchState};
@@ -10,12 +10,13 @@ use order_bounds::{line_of_order, pairs_of_order};
 use rail_base::plan::Command;
 
 impl PlanSearch<'_> {
-    ghost use Rattle.verify_loop.specs.Asking.{EndsWith, IsBeginning, IsPairList, IsSearch, SearchesLive};
-    ghost use Rattle.verify_loop.specs.Asking.{said_before, said_to, station_of};
+    ghost use Rattle.verify_loop.specs.Asking.{EndsWith, IsBeginning, IsFirst, IsPairList, IsSearch, SearchesLive};
+    ghost use Rattle.verify_loop.specs.Asking.{most_steps, said_before, said_to, station_of};
 
     /// A search that has the first clauses alone, with what orders say, where live commands are searched.
     pub(crate) fn with_orders(&self, search: SearchState) -> Result<SearchState, Outcome>
-        requires { IsBeginning self.now search [] }
+        requires first { IsFirst self.now }
+        requires begun { IsBeginning self.now search [] }
         ensures begun { IfOk result (IsSearch self.now) }
         ensures ends { IfErr result (EndsWith self.now) }
     {
@@ -28,9 +29,10 @@ impl PlanSearch<'_> {
     /// The same over live commands: order after order.
     fn with_all_orders(&self, search: SearchState) -> Result<SearchState, Outcome>
         requires live { SearchesLive self.now }
+        requires first { IsFirst self.now }
         requires begun { IsBeginning self.now search [] }
-        ensures begun { IfOk result (λ s. IsBeginning self.now s (known_first self.now.aim (station_of self.now)
-            self.now.numbering.now.steps)) }
+        ensures begun { IfOk result (λ s. IsBeginning self.now s (orders_first self.now.aim.base (station_of self.now)
+            (most_steps self.now))) }
         ensures ends { IfErr result (EndsWith self.now) }
     {
         let mut search = search;
@@ -43,6 +45,7 @@ impl PlanSearch<'_> {
     /// The same with what one more order says.
     fn with_order(&self, search: SearchState, order: u32) -> Result<SearchState, Outcome>
         requires live { SearchesLive self.now }
+        requires first { IsFirst self.now }
         requires at_least_one { 1 ≤ order }
         requires within { order ≤ length (station_of self.now).orders }
         requires begun { IsBeginning self.now search (said_before self.now order) }
@@ -69,6 +72,7 @@ impl PlanSearch<'_> {
         place: usize,
     ) -> Result<SearchState, Outcome>
         requires live { SearchesLive self.now }
+        requires first { IsFirst self.now }
         requires at_least_one { 1 ≤ order }
         requires within { order ≤ length (station_of self.now).orders }
         requires pairs { IsPairList self.now order pairs.now }

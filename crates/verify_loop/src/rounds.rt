@@ -1,8 +1,9 @@
 //! A search, round after round.
 
-ghost use Rattle.std.specs.Prelude.{◌≡◌, ◌≤◌, ◌<◌, ◌+◌, [], ◌∷◌, IfOk, IfErr, true};
+ghost use Rattle.std.specs.Prelude.{◌≡◌, ◌≤◌, ◌<◌, ◌+◌, [], ◌∷◌, IfOk, IfErr, None, true};
 ghost use Rattle.verify_loop.specs.Bases.{IsNumberingFor};
-ghost use Rattle.verify_loop.specs.Outcomes.{first_clauses};
+ghost use Rattle.verify_loop.specs.Outcomes.{IsOutcome, first_clauses};
+ghost use Rattle.verify_loop.specs.Quests.{by_itself};
 ghost use Rattle.verify_loop.specs.Searching.{state_in};
 ghost use Rattle.verify_loop.specs.Telling.{IsProgress};
 ghost use Rattle.proof_judge.specs.Judged.{names_within};
@@ -11,7 +12,7 @@ ghost use Rattle.plan_exclusion.specs.Failures.{FailsSo};
 ghost use Rattle.sat_core.specs.Runs.{Ends};
 ghost use Rattle.clause_spec.specs.Laws.{HasFewLiterals};
 
-use crate::outcome::{Aim, Budgets, Outcome};
+use crate::outcome::{Aim, Budgets, Outcome, Tried};
 use crate::progress::{Progress, none_before, progress_line};
 use bound_finder::Finder;
 use cone_clause::Contention;
@@ -47,37 +48,67 @@ pub(crate) struct SearchState {
     pub finder: Finder,
 }
 
+/// What is asked of a within.
+#[derive(Clone, Copy, Debug, PartialEq, Eq)]
+pub(crate) struct TimeAsked {
+    /// The within, from 1 on.
+    pub within: u32,
+    /// How many ticks it allows.
+    pub ticks: u64,
+}
+
+/// How a search stops.
+#[derive(Drop)]
+pub(crate) enum Stop {
+    /// At a plan that meets the design. All is done at the tick, and the search may go on.
+    Met {
+        search: SearchState,
+        plan: Plan,
+        history: History,
+        tick: u64,
+    },
+    /// At its end.
+    Over(Outcome),
+}
+
 /// What is searched, and what may be spent.
 #[derive(Clone, Copy)]
 pub(crate) struct PlanSearch<'a> {
     pub alloc: Global,
     pub interlocking: &'a Interlocking,
     pub aim: Aim,
+    /// How many ticks a within allows, where less and less is asked for; none of a search by itself.
+    pub time: Option<TimeAsked>,
+    /// The plans that were run where it allowed more.
+    pub tried: &'a [Tried],
     pub numbering: &'a Numbering,
     pub budgets: Budgets,
     pub ghost numbers: { IsNumberingFor aim.base interlocking.now numbering.now },
     pub ghost at_least_one: { 1 ≤ numbering.now.steps },
     pub ghost at_most_256: { numbering.now.steps ≤ 256 },
     pub ghost named: { names_within aim.base interlocking.now.design.station ≡ true },
-    pub ghost fits: { HasFewLiterals (first_clauses aim interlocking.now.design.station numbering.now.steps) },
+    pub ghost fits: { HasFewLiterals (first_clauses (by_itself aim interlocking.now.design.station numbering.now.steps)
+        interlocking.now.design.station numbering.now.steps) },
 }
 
 impl PlanSearch<'_> {
-    ghost use Rattle.verify_loop.specs.Asking.{EndsWith, Excludes, GoesOn, IsAtPlan, IsDenied, IsOpen, IsSearch};
-    ghost use Rattle.verify_loop.specs.Asking.{AreValuesFor, IsAdded, IsLeftOut, ShowsSome, TellsHowFar, WasFound};
-    ghost use Rattle.verify_loop.specs.Asking.{given_by, ticks_of, variables};
+    ghost use Rattle.verify_loop.specs.Asking.{EndsWith, Excludes, GoesOn, IsAtPlan, IsDenied, IsOpen, IsSearch, StopsAt};
+    ghost use Rattle.verify_loop.specs.Asking.{AreValuesFor, IsAdded, IsLeftOut, ShowsSome, TellsHowFar, WasFound, With};
+    ghost use Rattle.verify_loop.specs.Asking.{IsBeginning, IsFirst};
+    ghost use Rattle.verify_loop.specs.Telling.{TellsHowFar as TellsAlone};
+    ghost use Rattle.verify_loop.specs.Asking.{given_by, most_steps, station_of, ticks_of, variables};
 
     /// Round after round, each of which but the last excludes a plan that fails.
-    pub(crate) fn run_rounds<P: Sink>(&self, search: SearchState, progress: &mut P) -> Outcome
+    pub(crate) fn run_rounds<P: Sink>(&self, search: SearchState, progress: &mut P) -> Stop
         requires { IsSearch self.now search }
-        ensures ends { EndsWith self.now result }
+        ensures stops { StopsAt self.now result }
         ensures tells { TellsHowFar self.now (P.puts progress.old) (P.puts progress.new) }
     {
         let mut search = search;
         'rounds: loop {
             match self.refine(search, progress) {
                 Ok(next) => search = next,
-                Err(outcome) => return outcome,
+                Err(stop) => return stop,
             }
         }
     }
@@ -85,7 +116,7 @@ impl PlanSearch<'_> {
     /// How far the search is.
     fn progress(&self, search: &SearchState) -> Progress
         requires { IsSearch self.now search.now }
-        ensures { let q = self.now in IsProgress q.aim q.interlocking.now.design.station q.numbering.now.steps result }
+        ensures { With self.now (λ m. IsProgress m (station_of self.now) (most_steps self.now) result) }
     {
         Progress {
             none_of: none_before(self.aim.wanted, search.steps),
@@ -176,7 +207,12 @@ impl PlanSearch<'_> {
         if !search.solver.recorder().room(next) {
             let log = log_of(search.solver);
             let bytes = log.as_slice().len() as u64;
-            return Err(Outcome::LogSpent { log, bytes, next });
+            return Err(Outcome::LogSpent {
+                log,
+                bytes,
+                next,
+                failed: search.failed,
+            });
         }
         match search.solver.add_clause(bytes, line.clause.as_slice()) {
             Ok(_id) => Ok(search),
@@ -213,24 +249,52 @@ impl PlanSearch<'_> {
         Ok(search)
     }
 
+    /// What follows of a plan that was found, which these values give, and fails so.
+    fn after_failure(
+        &self,
+        search: SearchState,
+        plan: Plan,
+        values: &Assignment,
+        history: &History,
+        tick: u64,
+        violation: Violation,
+    ) -> Result<SearchState, Outcome>
+        requires at { IsAtPlan self.now search plan.steps }
+        requires are_values { AreValuesFor self.now values.now plan.steps }
+        requires fails { FailsSo (station_of self.now) plan.steps history.now tick violation }
+        requires tick { tick ≡ ticks_of self.now plan.steps }
+        requires at_least_one { 1 ≤ tick }
+        requires left { search.sum + tick ≤ self.now.budgets.ticks }
+        ensures goes_on { IfOk result (GoesOn self.now search) }
+        ensures ends { IfErr result (EndsWith self.now) }
+    {
+        let mut search = search;
+        let finder = &mut search.finder;
+        match self.exclusion_of(finder, &plan, values, history, tick, violation) {
+            Ok(exclusion) => self.exclude_plan(search, plan, tick, &exclusion),
+            Err(_) => Err(Outcome::Memory),
+        }
+    }
+
     /// What follows of the run of a plan that was found, which these values give.
     fn time_plan(
         &self,
         search: SearchState,
         plan: Plan,
         values: &Assignment,
-    ) -> Result<SearchState, Outcome>
+    ) -> Result<SearchState, Stop>
         requires at { IsAtPlan self.now search plan.steps }
         requires are_values { AreValuesFor self.now values.now plan.steps }
         ensures goes_on { IfOk result (GoesOn self.now search) }
-        ensures ends { IfErr result (EndsWith self.now) }
+        ensures stops { IfErr result (StopsAt self.now) }
     {
-        let mut search = search;
         let left = self.budgets.ticks - search.sum;
         match simulate(self.alloc, self.interlocking, &plan, left) {
-            Ok(Verdict::Met { history, tick }) => Err(Outcome::Plan {
+            Ok(Verdict::Met { history, tick }) => Err(Stop::Met {
+                search,
                 plan,
-                verdict: Verdict::Met { history, tick },
+                history,
+                tick,
             }),
             Ok(
                 Verdict::Failed {
@@ -238,23 +302,16 @@ impl PlanSearch<'_> {
                     tick,
                     violation,
                 },
-            ) => match self.exclusion_of(
-                &mut search.finder,
-                &plan,
-                values,
-                &history,
-                tick,
-                violation,
-            ) {
-                Ok(exclusion) => self.exclude_plan(search, plan, tick, &exclusion),
-                Err(_) => Err(Outcome::Memory),
+            ) => match self.after_failure(search, plan, values, &history, tick, violation) {
+                Ok(next) => Ok(next),
+                Err(outcome) => Err(Stop::Over(outcome)),
             },
-            Ok(Verdict::Undecided) => Err(Outcome::TicksSpent {
+            Ok(Verdict::Undecided) => Err(Stop::Over(Outcome::TicksSpent {
                 failed: search.failed,
                 sum: search.sum,
                 at_hand: plan,
-            }),
-            Err(_) => Err(Outcome::Memory),
+            })),
+            Err(_) => Err(Stop::Over(Outcome::Memory)),
         }
     }
 
@@ -320,11 +377,11 @@ impl PlanSearch<'_> {
         &self,
         search: SearchState,
         progress: &mut P,
-    ) -> Result<SearchState, Outcome>
+    ) -> Result<SearchState, Stop>
         requires state { IsSearch self.now search }
         requires unsaid { IsOpen self.now search }
         ensures goes_on { IfOk result (GoesOn self.now search) }
-        ensures ends { IfErr result (EndsWith self.now) }
+        ensures stops { IfErr result (StopsAt self.now) }
         ensures tells { TellsHowFar self.now (P.puts progress.old) (P.puts progress.new) }
     {
         let mut search = search;
@@ -335,38 +392,80 @@ impl PlanSearch<'_> {
                 self.tell(&search, progress);
                 match decode(self.alloc, self.numbering, &values) {
                     Ok(plan) => self.time_plan(search, plan, &values),
-                    Err(_) => Err(Outcome::Memory),
+                    Err(_) => Err(Stop::Over(Outcome::Memory)),
                 }
             }
-            Answer::Unsat(core) => self.after_denial(search, core.clause.as_slice(), progress),
+            Answer::Unsat(core) => {
+                match self.after_denial(search, core.clause.as_slice(), progress) {
+                    Ok(next) => Ok(next),
+                    Err(outcome) => Err(Stop::Over(outcome)),
+                }
+            }
             Answer::Spent { clause, hints } => {
                 self.tell(&search, progress);
                 if allowed < left {
                     return Ok(search);
                 }
-                Err(Outcome::ConflictsSpent {
+                Err(Stop::Over(Outcome::ConflictsSpent {
                     log: log_of(search.solver),
                     clause,
                     hints,
-                })
+                    failed: search.failed,
+                }))
             }
             Answer::Full { bytes, next } => {
                 self.tell(&search, progress);
-                Err(Outcome::LogSpent {
+                Err(Stop::Over(Outcome::LogSpent {
                     log: log_of(search.solver),
                     bytes,
                     next,
-                })
+                    failed: search.failed,
+                }))
             }
-            Answer::Memory => Err(Outcome::Memory),
+            Answer::Memory => Err(Stop::Over(Outcome::Memory)),
+        }
+    }
+
+    /// A search by itself, from its first clauses alone.
+    pub(crate) fn run_alone<P: Sink>(&self, search: SearchState, progress: &mut P) -> Outcome
+        requires alone { self.now.time ≡ None }
+        requires first { IsFirst self.now }
+        requires begun { IsBeginning self.now search [] }
+        ensures says { IsOutcome self.now.aim (station_of self.now) (most_steps self.now) self.now.budgets result }
+        ensures tells { TellsAlone self.now.aim (station_of self.now) (most_steps self.now)
+            (P.puts progress.old) (P.puts progress.new) }
+    {
+        match self.with_orders(search) {
+            Ok(search) => self.outcome(self.run_rounds(search, progress)),
+            Err(outcome) => outcome,
+        }
+    }
+
+    /// What the stop of a search by itself says.
+    fn outcome(&self, stop: Stop) -> Outcome
+        requires alone { self.now.time ≡ None }
+        requires stops { StopsAt self.now stop }
+        ensures { IsOutcome self.now.aim (station_of self.now) (most_steps self.now) self.now.budgets result }
+    {
+        match stop {
+            Stop::Met {
+                plan,
+                history,
+                tick,
+                ..
+            } => Outcome::Plan {
+                plan,
+                verdict: Verdict::Met { history, tick },
+            },
+            Stop::Over(outcome) => outcome,
         }
     }
 
     /// One question to the solver, unless a clause says already that there is no plan of so many steps.
-    fn refine<P: Sink>(&self, search: SearchState, progress: &mut P) -> Result<SearchState, Outcome>
+    fn refine<P: Sink>(&self, search: SearchState, progress: &mut P) -> Result<SearchState, Stop>
         requires { IsSearch self.now search }
         ensures goes_on { IfOk result (GoesOn self.now search) }
-        ensures ends { IfErr result (EndsWith self.now) }
+        ensures stops { IfErr result (StopsAt self.now) }
         ensures tells { TellsHowFar self.now (P.puts progress.old) (P.puts progress.new) }
     {
         let most = self.numbering.steps().count;

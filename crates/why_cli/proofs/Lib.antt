@@ -1,3 +1,5 @@
+pub mod Ranges
+pub mod Timed
 pub mod Reading
 pub mod Checking
 pub mod Outcomes

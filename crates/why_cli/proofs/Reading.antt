@@ -20,6 +20,7 @@ use Rattle.rail_outside.specs.Growth.{GrowsByPrefix}
 use Rattle.named_files.specs.declared.unmade.Unmade.{Unmade}
 use Rattle.named_files.specs.Replies.{Answers, Fetches, Makes, Reads, RepliesOf, unmade_of}
 use Rattle.named_files.proofs.Printing.{answers_one, goes_on, makes_same, stops_at_file}
+use Rattle.rail_words.specs.declared.request.InTime.{InTime}
 use Rattle.why_words.specs.Wanted.{Wanted}
 use Rattle.why_cli.specs.Answers.{sentences_or_shown, explained_against, text_explained, explained_where, steps_for}
 use Rattle.why_cli.specs.Plans.{IsPlanAnswer, is_plan}
@@ -28,10 +29,10 @@ use Rattle.why_cli.specs.Replies.{IsFileAnswer, IsOfKind, PrintsAnswer, PrintsUs
 -- ---- the text of a proof
 
 -- what is said of it is the answer for so many steps
-pub text_told : (design : List ℕ) (n : ℕ) (d : Station) (text : List ℕ) (said : Explained) (reply : Reply) → for_file n d text ≡ Ok d → sentences_or said ≡ explained_of d n text
-    → reply_seen reply ≡ sentences_or_shown design text (sentences_or said) → text_explained design n d text ≡ reply_seen reply
-text_told design n d text said reply few is seen =
-    answered_next (for_file n d text) d (λ same. explained_against design d n text) few ∙ sym (seen ∙ ap (sentences_or_shown design text) is)
+pub text_told : (t : Option InTime) (design : List ℕ) (n : ℕ) (d : Station) (text : List ℕ) (said : Explained) (reply : Reply) → for_file n d text ≡ Ok d → sentences_or said ≡ explained_of d n text
+    → reply_seen reply ≡ sentences_or_shown t design text (sentences_or said) → text_explained t design n d text ≡ reply_seen reply
+text_told t design n d text said reply few is seen =
+    answered_next (for_file n d text) d (λ same. explained_against t design d n text) few ∙ sym (seen ∙ ap (sentences_or_shown t design text) is)
 
 -- ---- replies on a file
 
@@ -49,32 +50,32 @@ kind_of : (bytes : List ℕ) (text : Vec ℕ Global) → within_limit file.Proof
 kind_of bytes text is = ap is_plan (file_is file.Proof bytes text.items is)
 
 -- of a file
-module _ (known : Option Files) (design : List ℕ) (steps : Option ℕ) (d : Station) (name : List ℕ) (r : Result Reply Unmade) where
+module _ (known : Option Files) (t : Option InTime) (design : List ℕ) (steps : Option ℕ) (d : Station) (name : List ℕ) (r : Result Reply Unmade) where
   -- what is said of the text of a proof
   abbrev of_text : List ℕ → ReplySeen
-  of_text text = explained_where design (steps_for steps text) d text
+  of_text text = explained_where t design (steps_for steps text) d text
 
   -- it could not be read
-  pub file_stops : (e : Unmade) → r ≡ Err e → Fetches known file.Proof name (Err e) → RepliesOf known name (IsFileAnswer design steps d) r
-  file_stops e is h = record { bytes = h.bytes; held = h.held; makes = subst (Makes (IsFileAnswer design steps d h.bytes) (name ∷ [])) (sym is) (go (is_plan h.bytes) e h.reads) }
+  pub file_stops : (e : Unmade) → r ≡ Err e → Fetches known file.Proof name (Err e) → RepliesOf known name (IsFileAnswer t design steps d) r
+  file_stops e is h = record { bytes = h.bytes; held = h.held; makes = subst (Makes (IsFileAnswer t design steps d h.bytes) (name ∷ [])) (sym is) (go (is_plan h.bytes) e h.reads) }
     where
-      go : (plan : Bool) (x : Unmade) → Reads (Err x) name (within_limit file.Proof h.bytes) → Makes (IsOfKind plan design steps d h.bytes) (name ∷ []) (Err x)
+      go : (plan : Bool) (x : Unmade) → Reads (Err x) name (within_limit file.Proof h.bytes) → Makes (IsOfKind plan t design steps d h.bytes) (name ∷ []) (Err x)
       go true x reads = stops_at_file (IsPlanAnswer d) (name ∷ []) name x (within_limit file.Proof h.bytes) (inl refl) reads
       go false x reads = stops_here of_text (name ∷ []) name x (within_limit file.Proof h.bytes) (inl refl) reads
 
   -- it is a plan, or a proof
-  pub file_plan : (text : Vec ℕ Global) → Fetches known file.Proof name (Ok text) → is_plan text.items ≡ true → Makes (IsPlanAnswer d text.items) (name ∷ []) r → RepliesOf known name (IsFileAnswer design steps d) r
+  pub file_plan : (text : Vec ℕ Global) → Fetches known file.Proof name (Ok text) → is_plan text.items ≡ true → Makes (IsPlanAnswer d text.items) (name ∷ []) r → RepliesOf known name (IsFileAnswer t design steps d) r
   file_plan text h plan made = record {
     bytes = h.bytes;
     held = h.held;
-    makes = subst (λ (b : Bool). Makes (IsOfKind b design steps d h.bytes) (name ∷ []) r) (sym (kind_of h.bytes text h.reads ∙ plan)) (goes_on (within_limit file.Proof h.bytes) text.items (IsPlanAnswer d) (name ∷ []) r h.reads made);
+    makes = subst (λ (b : Bool). Makes (IsOfKind b t design steps d h.bytes) (name ∷ []) r) (sym (kind_of h.bytes text h.reads ∙ plan)) (goes_on (within_limit file.Proof h.bytes) text.items (IsPlanAnswer d) (name ∷ []) r h.reads made);
   }
 
-  pub file_proof : (text : Vec ℕ Global) → Fetches known file.Proof name (Ok text) → is_plan text.items ≡ false → Makes (λ a. a ≡ of_text text.items) (name ∷ []) r → RepliesOf known name (IsFileAnswer design steps d) r
+  pub file_proof : (text : Vec ℕ Global) → Fetches known file.Proof name (Ok text) → is_plan text.items ≡ false → Makes (λ a. a ≡ of_text text.items) (name ∷ []) r → RepliesOf known name (IsFileAnswer t design steps d) r
   file_proof text h plan made = record {
     bytes = h.bytes;
     held = h.held;
-    makes = subst (λ (b : Bool). Makes (IsOfKind b design steps d h.bytes) (name ∷ []) r) (sym (kind_of h.bytes text h.reads ∙ plan)) (goes_here of_text (within_limit file.Proof h.bytes) text.items (name ∷ []) r h.reads made);
+    makes = subst (λ (b : Bool). Makes (IsOfKind b t design steps d h.bytes) (name ∷ []) r) (sym (kind_of h.bytes text h.reads ∙ plan)) (goes_here of_text (within_limit file.Proof h.bytes) text.items (name ∷ []) r h.reads made);
   }
 
 -- what an ending gives

@@ -13,15 +13,17 @@ use Rattle.cli_shell.specs.declared.input.InputFile.TheVariants as file
 use Rattle.cli_shell.specs.Statuses.{is_answered}
 use Rattle.cli_shell.specs.Answers.{ReplySeen, and_then, within_limit, design_in, unless_refused, verdict_status, with_routes}
 use Rattle.proof_shell.specs.Answers.{for_file, with_clauses}
-use Rattle.cli_shell.proofs.Using.{IsNoUsage, long_is_no_usage, design_is_no_usage}
+use Rattle.cli_shell.proofs.Using.{IsNoUsage, long_is_no_usage}
 use Rattle.proof_shell.proofs.Using.{clauses_are_no_usage, files_are_no_usage}
+use Rattle.rail_words.specs.declared.request.InTime.{InTime}
 use Rattle.why_words.specs.Wanted.{Wanted}
 use Rattle.design_table.specs.declared.fault.Code.{Code}
 use Rattle.design_table.specs.declared.place.Place.{Place}
 use Rattle.infra_reader.specs.Design.{design_of}
 use Rattle.rail_outside.specs.Files.{Files}
 use Rattle.named_files.specs.Replies.{Answers, names_of}
-use Rattle.why_cli.specs.Answers.{sentences_or_shown, explained_against, text_explained, proof_for, explanation_reply}
+use Rattle.why_cli.specs.Answers.{sentences_or_shown, explained_against, text_explained, design_for, proof_for, explanation_reply}
+use Rattle.why_cli.proofs.Timed.{design_no_usage}
 use Rattle.why_cli.specs.Designs.{IsClausesSaid, IsDesignAnswer, IsDesignSaid, IsReadSaid, IsSaidForSteps, IsTextSaid}
 use Rattle.why_cli.specs.Plans.{IsPlanAnswer, IsPlanFileAnswer, IsPlanSaid, IsReadPlanSaid, is_plan}
 use Rattle.why_cli.specs.Replies.{IsAnswerOf, IsAnswerTo, IsBothAnswer, IsFileAnswer, IsOfKind, IsTextAnswer, PrintsAnswer, design_name, file_name}
@@ -41,14 +43,14 @@ goes_on : {X : Type 0} (r : Result X ReplySeen) (next : X → ReplySeen) → IsN
 goes_on (Ok x) next other h is = h x is
 goes_on (Err a) next other h is = other a refl is
 
-shown_other : (design proof : List ℕ) (lines : List (List ℕ)) (shown : CheckResult) → (sentences_or_shown design proof (sentences_where_yes lines shown)).status ≡ Usage → ⊥
-shown_other design proof lines (Yes k) is = absurd (cc)
-shown_other design proof lines (No line reason) is = absurd (cc)
+shown_other : (t : Option InTime) (design proof : List ℕ) (lines : List (List ℕ)) (shown : CheckResult) → (sentences_or_shown t design proof (sentences_where_yes lines shown)).status ≡ Usage → ⊥
+shown_other t design proof lines (Yes k) is = absurd (cc)
+shown_other t design proof lines (No line reason) is = absurd (cc)
 
-proof_other : (design : List ℕ) (n : ℕ) (d : Station) (bytes : List ℕ) → (proof_for design (Some n) d bytes).status ≡ Usage → ⊥
-proof_other design n d bytes =
-    goes_on (within_limit file.Proof bytes) (text_explained design n d) (long_is_no_usage file.Proof bytes)
-    (λ text. goes_on (for_file n d text) (λ same. explained_against design d n text) (files_are_no_usage n d text) (λ same. shown_other design text (file_sentences d text) (judged d n text)))
+proof_other : (t : Option InTime) (design : List ℕ) (n : ℕ) (d : Station) (bytes : List ℕ) → (proof_for t design (Some n) d bytes).status ≡ Usage → ⊥
+proof_other t design n d bytes =
+    goes_on (within_limit file.Proof bytes) (text_explained t design n d) (long_is_no_usage file.Proof bytes)
+    (λ text. goes_on (for_file n d text) (λ same. explained_against t design d n text) (files_are_no_usage n d text) (λ same. shown_other t design text (file_sentences d text) (judged d n text)))
 
 -- ---- answers on a design alone
 
@@ -93,39 +95,39 @@ file_other d bytes a so is =
 
 -- ---- answers on a file
 
-kind_other : (plan : Bool) (design : List ℕ) (n : ℕ) (d : Station) (bytes : List ℕ) (a : ReplySeen) → IsOfKind plan design (Some n) d bytes a → a.status ≡ Usage → ⊥
-kind_other true design n d bytes a so is = file_other d bytes a so is
-kind_other false design n d bytes a so is = proof_other design n d bytes (ap (λ (b : ReplySeen). b.status) (sym so) ∙ is)
+kind_other : (plan : Bool) (t : Option InTime) (design : List ℕ) (n : ℕ) (d : Station) (bytes : List ℕ) (a : ReplySeen) → IsOfKind plan t design (Some n) d bytes a → a.status ≡ Usage → ⊥
+kind_other true t design n d bytes a so is = file_other d bytes a so is
+kind_other false t design n d bytes a so is = proof_other t design n d bytes (ap (λ (b : ReplySeen). b.status) (sym so) ∙ is)
 
-both_other : (n : ℕ) (design_bytes bytes : List ℕ) (a : ReplySeen) → IsBothAnswer (Some n) design_bytes bytes a → a.status ≡ Usage → ⊥
-both_other n design_bytes bytes a so is =
-    answers_other (within_limit file.Design design_bytes) (λ text. IsTextAnswer (Some n) text bytes) a (long_is_no_usage file.Design design_bytes)
-    (λ text. answers_other (design_in text) (λ d. IsFileAnswer text (Some n) d bytes) a (design_is_no_usage text) (λ d. kind_other (is_plan bytes) text n d bytes a)) so is
+both_other : (n : ℕ) (t : Option InTime) (design_bytes bytes : List ℕ) (a : ReplySeen) → IsBothAnswer (Some n) t design_bytes bytes a → a.status ≡ Usage → ⊥
+both_other n t design_bytes bytes a so is =
+    answers_other (within_limit file.Design design_bytes) (λ text. IsTextAnswer (Some n) t text bytes) a (long_is_no_usage file.Design design_bytes)
+    (λ text. answers_other (design_for (Some n) t text) (λ d. IsFileAnswer t text (Some n) d bytes) a (design_no_usage (Some n) t text) (λ d. kind_other (is_plan bytes) t text n d bytes a)) so is
 
 -- of a file that is no plan it is the answer on a proof
 answers_more : {X : Type 0} (reading : Result X ReplySeen) (right other : X → ReplySeen → Type 0) (a : ReplySeen) → ((x : X) → right x a → other x a) → Answers reading right a → Answers reading other a
 answers_more (Ok x) right other a h so = h x so
 answers_more (Err refusal) right other a h so = so
 
-pub proof_answer : (steps : Option ℕ) (design_bytes bytes : List ℕ) (a : ReplySeen) → is_plan bytes ≡ false → IsBothAnswer steps design_bytes bytes a → a ≡ explanation_reply steps design_bytes bytes
-proof_answer steps design_bytes bytes a no_plan so =
-    let next = λ (text : List ℕ). unless_refused (design_in text) (λ d. proof_for text steps d bytes) in
+pub proof_answer : (steps : Option ℕ) (t : Option InTime) (design_bytes bytes : List ℕ) (a : ReplySeen) → is_plan bytes ≡ false → IsBothAnswer steps t design_bytes bytes a → a ≡ explanation_reply steps t design_bytes bytes
+proof_answer steps t design_bytes bytes a no_plan so =
+    let next = λ (text : List ℕ). unless_refused (design_for steps t text) (λ d. proof_for t text steps d bytes) in
     answers_one (within_limit file.Design design_bytes) next a
-    (answers_more (within_limit file.Design design_bytes) (λ text. IsTextAnswer steps text bytes) (λ text b. b ≡ next text) a
-    (λ text h. answers_one (design_in text) (λ d. proof_for text steps d bytes) a
-    (answers_more (design_in text) (λ d. IsFileAnswer text steps d bytes) (λ d b. b ≡ proof_for text steps d bytes) a
-    (λ d k. subst (λ (plan : Bool). IsOfKind plan text steps d bytes a) no_plan k) h)) so)
+    (answers_more (within_limit file.Design design_bytes) (λ text. IsTextAnswer steps t text bytes) (λ text b. b ≡ next text) a
+    (λ text h. answers_one (design_for steps t text) (λ d. proof_for t text steps d bytes) a
+    (answers_more (design_for steps t text) (λ d. IsFileAnswer t text steps d bytes) (λ d b. b ≡ proof_for t text steps d bytes) a
+    (λ d k. subst (λ (plan : Bool). IsOfKind plan t text steps d bytes a) no_plan k) h)) so)
 
 -- ---- what is printed
 
-answer_other : (steps : Option ℕ) (f : Option (List ℕ)) (design_bytes bytes : List ℕ) (a : ReplySeen) → IsAnswerOf steps f design_bytes bytes a → a.status ≡ Usage → steps ≡ None
-answer_other None f design_bytes bytes a so is = refl
-answer_other (Some n) None design_bytes bytes a so is = absurd (design_other (Some n) design_bytes a so is)
-answer_other (Some n) (Some name) design_bytes bytes a so is = absurd (both_other n design_bytes bytes a so is)
+answer_other : (steps : Option ℕ) (t : Option InTime) (f : Option (List ℕ)) (design_bytes bytes : List ℕ) (a : ReplySeen) → IsAnswerOf steps t f design_bytes bytes a → a.status ≡ Usage → steps ≡ None
+answer_other None t f design_bytes bytes a so is = refl
+answer_other (Some n) t None design_bytes bytes a so is = absurd (design_other (Some n) design_bytes a so is)
+answer_other (Some n) t (Some name) design_bytes bytes a so is = absurd (both_other n t design_bytes bytes a so is)
 
 gives_none : (wanted : Option Wanted) (design_bytes proof_bytes : List ℕ) (a : ReplySeen) → IsAnswerTo wanted design_bytes proof_bytes a → a.status ≡ Usage → GivesNoSteps wanted
 gives_none None design_bytes proof_bytes a so is = tt
-gives_none (Some w) design_bytes proof_bytes a so is = answer_other w.steps w.file design_bytes proof_bytes a so is
+gives_none (Some w) design_bytes proof_bytes a so is = answer_other w.steps w.in_time w.file design_bytes proof_bytes a so is
 
 module _ (known : Option Files) (wanted : Option Wanted) (s : Status) (text new_text : Option (List ℕ)) (pieces new_pieces : Option (List (List ℕ))) where
   pub usage_for : PrintsAnswer known wanted s text new_text pieces new_pieces → is_answered s ≡ true → IsUsageFor wanted s

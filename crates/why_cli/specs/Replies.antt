@@ -5,44 +5,46 @@ use Rattle.named_files.specs.Reports.{PrintsFor, Reports}
 use Rattle.rail_base.specs.declared.station.Station.{Station}
 use Rattle.cli_shell.specs.declared.input.InputFile.TheVariants as file
 use Rattle.cli_shell.specs.declared.status.Status.{Status}
-use Rattle.cli_shell.specs.Answers.{ReplySeen, design_in, within_limit}
+use Rattle.cli_shell.specs.Answers.{ReplySeen, within_limit}
 use Rattle.rail_outside.specs.Asks.{Ask}
 use Rattle.rail_outside.specs.Files.{Files}
 use Rattle.rail_words.specs.Words.{texts_of}
+use Rattle.rail_words.specs.declared.request.InTime.{InTime}
 use Rattle.why_words.specs.Wanted.{Wanted, check_words, wanted_of, words_with_proof}
 use Rattle.why_cli.specs.declared.run.CheckWords.{CheckWords}
-use Rattle.why_cli.specs.Answers.{proof_for, usage}
+use Rattle.why_cli.specs.Answers.{design_for, proof_for, usage}
 use Rattle.why_cli.specs.Designs.{IsDesignAnswer}
 use Rattle.why_cli.specs.Plans.{IsPlanFileAnswer, is_plan}
 
 -- ---- answers
 
 -- for the bytes of a file that is a plan, or a proof
-abbrev pub IsOfKind : Bool → List ℕ → Option ℕ → Station → List ℕ → ReplySeen → Type 0
-IsOfKind true design steps d bytes a = IsPlanFileAnswer d bytes a
-IsOfKind false design steps d bytes a = a ≡ proof_for design steps d bytes
+abbrev pub IsOfKind : Bool → Option InTime → List ℕ → Option ℕ → Station → List ℕ → ReplySeen → Type 0
+IsOfKind true t design steps d bytes a = IsPlanFileAnswer d bytes a
+IsOfKind false t design steps d bytes a = a ≡ proof_for t design steps d bytes
 
 -- by its bytes
-abbrev pub IsFileAnswer : List ℕ → Option ℕ → Station → List ℕ → ReplySeen → Type 0
-IsFileAnswer design steps d bytes a = IsOfKind (is_plan bytes) design steps d bytes a
+abbrev pub IsFileAnswer : Option InTime → List ℕ → Option ℕ → Station → List ℕ → ReplySeen → Type 0
+IsFileAnswer t design steps d bytes a = IsOfKind (is_plan bytes) t design steps d bytes a
 
--- for the text of a design and the bytes of a file
-abbrev pub IsTextAnswer : Option ℕ → List ℕ → List ℕ → ReplySeen → Type 0
-IsTextAnswer steps text bytes a = Answers (design_in text) (λ d. IsFileAnswer text steps d bytes) a
+-- for the text of a design, with the greatest time put in that is given, and the bytes of a file
+abbrev pub IsTextAnswer : Option ℕ → Option InTime → List ℕ → List ℕ → ReplySeen → Type 0
+IsTextAnswer steps t text bytes a = Answers (design_for steps t text) (λ d. IsFileAnswer t text steps d bytes) a
 
 -- for the bytes of a design and of a file
-abbrev pub IsBothAnswer : Option ℕ → List ℕ → List ℕ → ReplySeen → Type 0
-IsBothAnswer steps design_bytes bytes a = Answers (within_limit file.Design design_bytes) (λ text. IsTextAnswer steps text bytes) a
+abbrev pub IsBothAnswer : Option ℕ → Option InTime → List ℕ → List ℕ → ReplySeen → Type 0
+IsBothAnswer steps t design_bytes bytes a =
+    Answers (within_limit file.Design design_bytes) (λ text. IsTextAnswer steps t text bytes) a
 
--- the answer is one on a design alone, or on a design and a file
-abbrev pub IsAnswerOf : Option ℕ → Option (List ℕ) → List ℕ → List ℕ → ReplySeen → Type 0
-IsAnswerOf steps None design_bytes bytes a = IsDesignAnswer steps design_bytes a
-IsAnswerOf steps (Some name) design_bytes bytes a = IsBothAnswer steps design_bytes bytes a
+-- the answer is one on a design alone, into which no time is put, or on a design and a file
+abbrev pub IsAnswerOf : Option ℕ → Option InTime → Option (List ℕ) → List ℕ → List ℕ → ReplySeen → Type 0
+IsAnswerOf steps t None design_bytes bytes a = IsDesignAnswer steps design_bytes a
+IsAnswerOf steps t (Some name) design_bytes bytes a = IsBothAnswer steps t design_bytes bytes a
 
 -- the answer is one to what is wanted, which may be nothing
 abbrev pub IsAnswerTo : Option Wanted → List ℕ → List ℕ → ReplySeen → Type 0
 IsAnswerTo None design_bytes bytes a = a ≡ usage
-IsAnswerTo (Some w) design_bytes bytes a = IsAnswerOf w.steps w.file design_bytes bytes a
+IsAnswerTo (Some w) design_bytes bytes a = IsAnswerOf w.steps w.in_time w.file design_bytes bytes a
 
 -- ---- files
 

@@ -18,6 +18,7 @@ use plan_encoding::BaseFault;
 use proof_log::Head;
 use proof_shell::make_reply;
 use proof_words::{Explained, explain};
+use rail_words::InTime;
 use std::alloc::{AllocError, Global};
 
 /// The words ask for nothing, or for no number of steps.
@@ -26,7 +27,7 @@ fn usage(alloc: Global) -> Result<Reply, AllocError>
 {
     let line = Vec::from_slice(
         alloc,
-        b"usage: rcv_why [--steps N] DESIGN [PROOF or PLAN]\n",
+        b"usage: rcv_why [--within W --max-ms X] [--steps N] DESIGN [PROOF or PLAN]\n",
     )?;
     one_line(alloc, Status::Usage, line)
 }
@@ -43,15 +44,16 @@ pub(crate) fn usage_made<'a>(alloc: Global) -> Result<Reply, Unmade<'a>>
 /// What a proof says of a design, by the texts of both: in sentences where it shows that there is no plan.
 fn reply_for(
     alloc: Global,
+    in_time: Option<InTime>,
     design_text: &[u8],
     text: &[u8],
     said: Explained,
 ) -> Result<Reply, AllocError>
-    ensures { RepliesWith result (sentences_or_shown design_text.now text.now (sentences_or said)) }
+    ensures { RepliesWith result (sentences_or_shown in_time design_text.now text.now (sentences_or said)) }
 {
     match said {
         Explained::Sentences { steps, mut lines } => {
-            let mut all = head_lines(alloc, design_text, text, steps)?;
+            let mut all = head_lines(alloc, in_time, design_text, text, steps)?;
             all.append(&mut lines)?;
             Ok(Reply {
                 status: Status::Done,
@@ -110,23 +112,26 @@ fn said_of(
 /// The reply for a number of steps, by the text of the proof.
 fn text_explained(
     alloc: Global,
+    in_time: Option<InTime>,
     design_text: &[u8],
     interlocking: &Interlocking,
     steps: Steps,
     text: &[u8],
 ) -> Result<Reply, Ending>
     ensures replies { Replies result
-        (text_explained design_text.now steps.count interlocking.now.design.station text.now) }
+        (text_explained in_time design_text.now steps.count interlocking.now.design.station text.now) }
     ensures no_fault { result ≢ Err Ending.ShelfFault }
 {
     let said = said_of(alloc, interlocking, steps, text)?;
-    let reply = reply_for(alloc, design_text, text, said)?;
+    let reply = reply_for(alloc, in_time, design_text, text, said)?;
     Ok(reply)
 }
 
-/// The reply for the steps that are given, or else as many as the head of the proof names, by its text.
+/// The reply for the steps that are given, or else as many as the head of the proof names, by its text. The design is
+/// that of its text with the greatest time put in that is given.
 pub(crate) fn text_reply(
     alloc: Global,
+    in_time: Option<InTime>,
     design_text: &[u8],
     interlocking: &Interlocking,
     steps: Option<u32>,
@@ -134,11 +139,18 @@ pub(crate) fn text_reply(
 ) -> Result<Reply, Ending>
     requires { AreStepsInRange steps }
     ensures replies { let d = interlocking.now.design.station in
-        Replies result (explained_where design_text.now (steps_for steps text.now) d text.now) }
+        Replies result (explained_where in_time design_text.now (steps_for steps text.now) d text.now) }
     ensures no_fault { result ≢ Err Ending.ShelfFault }
 {
     match steps.or(steps_named(head_in(text))) {
-        Some(count) => text_explained(alloc, design_text, interlocking, Steps { count }, text),
+        Some(count) => text_explained(
+            alloc,
+            in_time,
+            design_text,
+            interlocking,
+            Steps { count },
+            text,
+        ),
         None => {
             let reply = usage(alloc)?;
             Ok(reply)

@@ -3,6 +3,7 @@
 //! about its cones and bounds, or what a check of the files answers where it is not yes.
 #![tactic(auto)]
 
+mod admitting;
 mod designs;
 mod explaining;
 mod heads;

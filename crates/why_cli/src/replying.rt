@@ -3,19 +3,22 @@
 ghost use Rattle.std.specs.Prelude.{◌≡◌, ◌≤◌, [], ◌∷◌, true, None, Some, IfOk};
 ghost use Rattle.rail_outside.specs.Growth.{Rose, GrowsByPrefix};
 ghost use Rattle.named_files.specs.Replies.{is_unread};
+ghost use Rattle.rail_words.specs.Requests.{IsInTimeInRange};
 ghost use Rattle.why_words.specs.Wanted.{AreStepsInRange};
 ghost use Rattle.why_words.specs.Words.{wanted_by};
 ghost use Rattle.rail_outside.specs.Asks.{fetched};
 ghost use Rattle.named_files.specs.Replies.{RepliesFor, RepliesOf};
 ghost use Rattle.why_cli.specs.Replies.{IsAnswerOf, IsAnswerTo, IsBothAnswer, IsFileAnswer, asks_to};
 
+use crate::admitting::design_for;
 use crate::designs::design_reply;
 use crate::explaining::text_reply;
 use crate::plans::{is_plan, plan_reply};
-use cli_shell::{InputFile, Reply, admit};
+use cli_shell::{InputFile, Reply};
 use interlocking::Interlocking;
 use named_files::{Unmade, fetch_named, unmade_by};
 use rail_outside::Shelf;
+use rail_words::InTime;
 use std::alloc::{AllocError, Global};
 use why_words::Wanted;
 
@@ -25,7 +28,8 @@ pub(crate) fn reply_to<'a, S: Shelf>(
     shelf: &mut S,
     wanted: Wanted<'a>,
 ) -> Result<Reply, Unmade<'a>>
-    requires { AreStepsInRange wanted.steps }
+    requires steps { AreStepsInRange wanted.steps }
+    requires in_time { IsInTimeInRange wanted.in_time }
     ensures replies { let w = wanted_by wanted.entry in
         RepliesFor (S.known_files shelf.old) (Some w.design) w.file (IsAnswerTo (Some w)) result }
     ensures cause { is_unread result ≡ true → Rose (S.fault_count shelf.old) (S.fault_count shelf.new) }
@@ -35,12 +39,13 @@ pub(crate) fn reply_to<'a, S: Shelf>(
 {
     let Wanted {
         steps,
+        in_time,
         design,
         file,
     } = wanted;
     match file {
         None => for_design(alloc, shelf, steps, design),
-        Some(name) => for_both(alloc, shelf, steps, design, name),
+        Some(name) => for_both(alloc, shelf, steps, in_time, design, name),
     }
 }
 
@@ -53,7 +58,7 @@ fn for_design<'a, S: Shelf>(
 ) -> Result<Reply, Unmade<'a>>
     requires { AreStepsInRange steps }
     ensures replies { RepliesFor (S.known_files shelf.old) (Some design.entry.now) None
-        (IsAnswerOf steps None) result }
+        (IsAnswerOf steps None None) result }
     ensures cause { is_unread result ≡ true → Rose (S.fault_count shelf.old) (S.fault_count shelf.new) }
     ensures never_falls { S.fault_count shelf.old ≤ S.fault_count shelf.new }
     ensures files_stay { S.known_files shelf.new ≡ S.known_files shelf.old }
@@ -69,12 +74,14 @@ fn for_both<'a, S: Shelf>(
     alloc: Global,
     shelf: &mut S,
     steps: Option<u32>,
+    in_time: Option<InTime>,
     design: &'a str,
     name: &'a str,
 ) -> Result<Reply, Unmade<'a>>
-    requires { AreStepsInRange steps }
+    requires steps { AreStepsInRange steps }
+    requires in_time { IsInTimeInRange in_time }
     ensures replies { RepliesFor (S.known_files shelf.old) (Some design.entry.now) (Some name.entry.now)
-        (IsBothAnswer steps) result }
+        (IsBothAnswer steps in_time) result }
     ensures cause { is_unread result ≡ true → Rose (S.fault_count shelf.old) (S.fault_count shelf.new) }
     ensures never_falls { S.fault_count shelf.old ≤ S.fault_count shelf.new }
     ensures files_stay { S.known_files shelf.new ≡ S.known_files shelf.old }
@@ -82,8 +89,16 @@ fn for_both<'a, S: Shelf>(
         (fetched design.entry.now ∷ fetched name.entry.now ∷ []) }
 {
     let bytes = fetch_named(alloc, shelf, InputFile::Design, design)?;
-    match admit(alloc, bytes.as_slice()) {
-        Ok(interlocking) => { for_file(alloc, shelf, bytes.as_slice(), &interlocking, steps, name) }
+    match design_for(alloc, bytes.as_slice(), steps, in_time) {
+        Ok(interlocking) => for_file(
+            alloc,
+            shelf,
+            in_time,
+            bytes.as_slice(),
+            &interlocking,
+            steps,
+            name,
+        ),
         Err(ending) => Err(unmade_by(ending)),
     }
 }
@@ -92,6 +107,7 @@ fn for_both<'a, S: Shelf>(
 fn for_file<'a, S: Shelf>(
     alloc: Global,
     shelf: &mut S,
+    in_time: Option<InTime>,
     design_text: &[u8],
     interlocking: &Interlocking,
     steps: Option<u32>,
@@ -99,7 +115,7 @@ fn for_file<'a, S: Shelf>(
 ) -> Result<Reply, Unmade<'a>>
     requires { AreStepsInRange steps }
     ensures replies { RepliesOf (S.known_files shelf.old) name.entry.now
-        (IsFileAnswer design_text.now steps interlocking.now.design.station) result }
+        (IsFileAnswer in_time design_text.now steps interlocking.now.design.station) result }
     ensures cause { is_unread result ≡ true → Rose (S.fault_count shelf.old) (S.fault_count shelf.new) }
     ensures never_falls { S.fault_count shelf.old ≤ S.fault_count shelf.new }
     ensures files_stay { S.known_files shelf.new ≡ S.known_files shelf.old }
@@ -110,7 +126,14 @@ fn for_file<'a, S: Shelf>(
         let reply = plan_reply(alloc, interlocking, bytes.as_slice())?;
         return Ok(reply);
     }
-    match text_reply(alloc, design_text, interlocking, steps, bytes.as_slice()) {
+    match text_reply(
+        alloc,
+        in_time,
+        design_text,
+        interlocking,
+        steps,
+        bytes.as_slice(),
+    ) {
         Ok(reply) => Ok(reply),
         Err(ending) => Err(unmade_by(ending)),
     }

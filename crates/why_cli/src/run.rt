@@ -4,6 +4,7 @@ ghost use Rattle.std.specs.Prelude.{◌≡◌, ◌≢◌, ◌≤◌, true, IfOk,
 ghost use Rattle.rail_base.specs.declared.station.Station.{Station};
 ghost use Rattle.rail_outside.specs.Files.{Files};
 ghost use Rattle.rail_outside.specs.Growth.{Rose, GrowsByPrefix};
+ghost use Rattle.rail_words.specs.Requests.{IsInTimeInRange};
 ghost use Rattle.rail_words.specs.Words.{texts_of};
 ghost use Rattle.cli_shell.specs.Statuses.{is_answered};
 ghost use Rattle.cli_shell.specs.Verdicts.{IsVerdict};
@@ -24,7 +25,8 @@ use why_words::{Wanted, check_words, read_wanted, words_with_proof};
 /// Does what the words of a command line ask for, the first of which is the program's name: reads the design that they
 /// name from the shelf, and the proof if they name one. Of a design alone it prints what is wrong with it, where it is
 /// refused, or what it asks for and what to look at. Of a proof it prints the sentences about its cones and bounds, or
-/// what a check answers where it is not yes. All of its text is made before the first line is printed.
+/// what a check answers where it is not yes; of a plan or a proof it does so over the design with the greatest time put
+/// in that the words give. All of its text is made before the first line is printed.
 ///
 /// Where the shelf's files are known, the status and the text are those of an answer that these files give; want of
 /// memory, a fault of the shelf, with a line that names the file, or a fault of the sink may come in its place.
@@ -38,8 +40,9 @@ pub fn run_why<S: Shelf, O: Sink>(
     ensures answer { PrintsAnswer (S.known_files shelf.old) (wanted_of (texts_of words.now)) result
         (O.written out.old) (O.written out.new) (O.puts out.old) (O.puts out.new) }
 
-    // Of a proof, sentences are printed only where the design has no plan of as many steps as the lines before them say.
-    // That is the number that a check of the files prints, and the sentences are those about the lines of the proof.
+    // Of a proof, sentences are printed only where the design, with the greatest time put in that is given, has no plan of
+    // as many steps as the lines before them say. That is the number that a check of the files prints, and the sentences
+    // are those about the lines of the proof.
     ensures infeasible { (files : Files) → S.known_files shelf.old ≡ Some files → (d : Station)
         → (e : Explains files (texts_of words.now) d) → result ≡ Status.Done
         → ExplainsProof files e.wanted e.proof d (O.written out.old) (O.written out.new) }
@@ -131,7 +134,8 @@ fn run_wanted<S: Shelf, O: Sink>(
     shelf: &mut S,
     out: &mut O,
 ) -> Status
-    requires { AreStepsInRange wanted.steps }
+    requires steps { AreStepsInRange wanted.steps }
+    requires in_time { IsInTimeInRange wanted.in_time }
     ensures answer { PrintsAnswer (S.known_files shelf.old) (Some (wanted_by wanted.entry)) result
         (O.written out.old) (O.written out.new) (O.puts out.old) (O.puts out.new) }
     ensures shelf_fault { result ≡ Status.ShelfFault → Rose (S.fault_count shelf.old) (S.fault_count shelf.new) }

@@ -1,5 +1,5 @@
 //! Runs worked examples of `rcv_why` over shelves and sinks in memory, and names those that do not answer as they have
-//! to: mistakes in designs and plans, and what is said of them.
+//! to: mistakes in designs and plans and what is said of them, and what is said where a within has another time.
 #![tactic(auto)]
 
 mod commands;
@@ -14,7 +14,7 @@ use toml::Table;
 use worked_examples::{Row, fetch_text, rows_of, texts_of};
 
 /// The files with the worked examples.
-const BOOKS: [&str; 2] = ["mistakes", "codes"];
+const BOOKS: [&str; 3] = ["mistakes", "codes", "times"];
 
 /// The table of a file with worked examples.
 fn read_book<R: Files + Drop>(alloc: Global, data: &mut FileShelf<R>, name: &str) -> Result<Table> {

@@ -4,4 +4,9 @@ use Rattle.why_words.specs.declared.wanted.Wanted.{Wanted as Asking}
 use Rattle.why_words.specs.Wanted.{Wanted}
 
 abbrev pub wanted_by : Asking → Wanted
-wanted_by w = record { steps = w.steps; design = w.design.now; file = option_map (λ name. name.now) w.file }
+wanted_by w = record {
+  steps = w.steps;
+  in_time = w.in_time;
+  design = w.design.now;
+  file = option_map (λ name. name.now) w.file;
+}

@@ -1,15 +1,16 @@
 use Rattle.std.proofs.Common.{rules, ap, Some}
-use Rattle.rail_words.specs.Requests.{simulate, routes, verify, check, trial}
+use Rattle.rail_words.specs.Requests.{simulate, routes, verify, tightest, check, trial}
 use Rattle.rail_words.specs.Words.{request_seen}
 use Rattle.verify_loop.specs.declared.outcome.Budgets.{Budgets}
-use Rattle.rail_cli.proofs.Deciding.{decides_named, decides_routes, decides_verify, decides_check, decides_trial}
+use Rattle.rail_cli.proofs.Deciding.{decides_named, decides_routes, decides_verify, decides_tightest, decides_check, decides_trial}
 use Rattle.cli_shell.proofs.Asking.{none_of}
 use Rattle.rail_cli.proofs.Finding.{simulate_so, routes_so, check_so, trial_so, verify_so, search_steps}
+use Rattle.rail_cli.proofs.TimeFinding.{tightest_so, some_tightest, time_steps}
 use Rattle.rail_cli.proofs.Judging.{asked_steps}
-use Rattle.rail_cli.proofs.Leaving.{simulate_leaves, routes_leaves, check_leaves, trial_leaves, verify_leaves}
+use Rattle.rail_cli.proofs.Leaving.{simulate_leaves, routes_leaves, check_leaves, trial_leaves, verify_leaves, tightest_leaves}
 use Rattle.rail_cli.proofs.Trying.{tries_other, trial_size}
 use Rattle.rail_cli.proofs.AnyShelf.{some_simulation, some_routes, some_check, asks_named, some_search, some_trial}
-use Rattle.rail_cli.proofs.Telling.{nothing_told, search_tells, trial_tells}
+use Rattle.rail_cli.proofs.Telling.{nothing_told, search_tells, time_tells, trial_tells}
 use Rattle.rail_cli.proofs.run.request_reply.Goals as goal
 
 pub returns-in-Simulate-clause-replies : goal.returns-in-Simulate-clause-replies
@@ -46,18 +47,18 @@ search_reply-requires g c =
     record { at_least_one = steps.0; at_most_256 = steps.1; room = ap (λ (b : Budgets). b.log_bytes) c.budgets.ensures }
 
 pub returns-in-Check-clause-replies : goal.returns-in-Check-clause-replies
-returns-in-Check-clause-replies g c = λ files reply_for. check_so c.check_reply.result files (request_seen c.args.request) c.in-Check.steps c.in-Check.design.now c.in-Check.proof.now (search rules) (c.check_reply.ensures.replies files reply_for)
+returns-in-Check-clause-replies g c = λ files reply_for. check_so c.check_reply.result files (request_seen c.args.request) c.in-Check.steps c.in-Check.in_time c.in-Check.design.now c.in-Check.proof.now (search rules) (c.check_reply.ensures.replies files reply_for)
 
 pub returns-in-Check-clause-decides : goal.returns-in-Check-clause-decides
-returns-in-Check-clause-decides g c = λ files reply_for. decides_check files (request_seen c.args.request) c.in-Check.steps c.in-Check.design.now c.in-Check.proof.now c.check_reply.result (search rules)
+returns-in-Check-clause-decides g c = λ files reply_for. decides_check files (request_seen c.args.request) c.in-Check.steps c.in-Check.in_time c.in-Check.design.now c.in-Check.proof.now c.check_reply.result (search rules)
 
 pub returns-in-Check-clause-stored : goal.returns-in-Check-clause-stored
-returns-in-Check-clause-stored g c = check_leaves c.check_reply.result _ _ (request_seen c.args.request) c.in-Check.steps c.in-Check.design.now c.in-Check.proof.now (search rules) c.check_reply.ensures.files_stay
+returns-in-Check-clause-stored g c = check_leaves c.check_reply.result _ _ (request_seen c.args.request) c.in-Check.steps c.in-Check.in_time c.in-Check.design.now c.in-Check.proof.now (search rules) c.check_reply.ensures.files_stay
 
 pub check_reply-requires : goal.check_reply-requires
 check_reply-requires g c =
-    let steps = asked_steps (request_seen c.args.request) c.in-Check.steps c.in-Check.design.now c.in-Check.proof.now (search rules) c.requires.range in
-    record { at_least_one = steps.0; at_most_256 = steps.1 }
+    let steps = asked_steps (request_seen c.args.request) c.in-Check.steps c.in-Check.in_time c.in-Check.design.now c.in-Check.proof.now (search rules) c.requires.range in
+    record { at_least_one = steps.0; at_most_256 = steps.1; in_range = steps.2 }
 
 pub returns-in-Simulate-clause-tries : goal.returns-in-Simulate-clause-tries
 returns-in-Simulate-clause-tries g c = tries_other c.simulation_reply.result (request_seen c.args.request) (simulate c.in-Simulate.design.now c.in-Simulate.plan.now) (search rules) tt
@@ -69,7 +70,7 @@ pub returns-in-Verify-clause-tries : goal.returns-in-Verify-clause-tries
 returns-in-Verify-clause-tries g c = tries_other c.search_reply.result (request_seen c.args.request) (verify c.in-Verify.steps c.in-Verify.conflicts c.in-Verify.ticks c.in-Verify.mode c.in-Verify.design.now c.in-Verify.proof.now) (search rules) tt
 
 pub returns-in-Check-clause-tries : goal.returns-in-Check-clause-tries
-returns-in-Check-clause-tries g c = tries_other c.check_reply.result (request_seen c.args.request) (check c.in-Check.steps c.in-Check.design.now c.in-Check.proof.now) (search rules) tt
+returns-in-Check-clause-tries g c = tries_other c.check_reply.result (request_seen c.args.request) (check c.in-Check.steps c.in-Check.in_time c.in-Check.design.now c.in-Check.proof.now) (search rules) tt
 
 pub returns-in-Trial-clause-replies : goal.returns-in-Trial-clause-replies
 returns-in-Trial-clause-replies g c = λ files reply_for. trial_so c.trial_reply.result files (request_seen c.args.request) c.in-Trial.seed c.in-Trial.size (search rules) c.trial_reply.ensures.replies
@@ -103,7 +104,7 @@ returns-in-Verify-clause-for_some_files g c =
     (some_search c.search_reply.result c.in-Verify.steps c.in-Verify.conflicts c.in-Verify.ticks c.in-Verify.mode c.budgets.result c.in-Verify.design.now c.in-Verify.proof.now c.budgets.ensures c.search_reply.ensures.for_some_files)
 
 pub returns-in-Check-clause-for_some_files : goal.returns-in-Check-clause-for_some_files
-returns-in-Check-clause-for_some_files g c = asks_named c.check_reply.result (request_seen c.args.request) (check c.in-Check.steps c.in-Check.design.now c.in-Check.proof.now) (search rules) (some_check c.check_reply.result c.in-Check.steps c.in-Check.design.now c.in-Check.proof.now c.check_reply.ensures.for_some_files)
+returns-in-Check-clause-for_some_files g c = asks_named c.check_reply.result (request_seen c.args.request) (check c.in-Check.steps c.in-Check.in_time c.in-Check.design.now c.in-Check.proof.now) (search rules) (some_check c.check_reply.result c.in-Check.steps c.in-Check.in_time c.in-Check.design.now c.in-Check.proof.now c.check_reply.ensures.for_some_files)
 
 pub returns-in-Trial-clause-for_some_files : goal.returns-in-Trial-clause-for_some_files
 returns-in-Trial-clause-for_some_files g c = asks_named c.trial_reply.result (request_seen c.args.request) (trial c.in-Trial.seed c.in-Trial.size) (search rules) (some_trial c.trial_reply.result c.in-Trial.seed c.in-Trial.size c.trial_reply.ensures.replies)
@@ -122,3 +123,28 @@ returns-in-Verify-clause-tells g c = λ files reply_for. search_tells files (req
 
 pub returns-in-Trial-clause-tells : goal.returns-in-Trial-clause-tells
 returns-in-Trial-clause-tells g c = λ files reply_for. trial_tells files (request_seen c.args.request) c.in-Trial.seed c.in-Trial.size _ _ (search rules) c.trial_reply.ensures.tells
+
+pub returns-in-Tightest-clause-replies : goal.returns-in-Tightest-clause-replies
+returns-in-Tightest-clause-replies g c = λ files reply_for. tightest_so c.time_reply.result files (request_seen c.args.request) c.in-Tightest.steps c.in-Tightest.conflicts c.in-Tightest.ticks c.in-Tightest.within c.in-Tightest.bounds c.budgets-in-Tightest.result c.in-Tightest.design.now c.in-Tightest.proof.now c.budgets-in-Tightest.ensures (search rules) (c.time_reply.ensures.replies files reply_for)
+
+pub returns-in-Tightest-clause-decides : goal.returns-in-Tightest-clause-decides
+returns-in-Tightest-clause-decides g c = λ files reply_for. decides_tightest files (request_seen c.args.request) c.in-Tightest.steps c.in-Tightest.conflicts c.in-Tightest.ticks c.in-Tightest.within c.in-Tightest.bounds c.in-Tightest.design.now c.in-Tightest.proof.now c.time_reply.result (search rules)
+
+pub returns-in-Tightest-clause-stored : goal.returns-in-Tightest-clause-stored
+returns-in-Tightest-clause-stored g c = tightest_leaves c.time_reply.result (g.S.Shelf.known_files c.args.shelf.now) (g.S.Shelf.known_files c.time_reply.new.shelf) (request_seen c.args.request) c.in-Tightest.steps c.in-Tightest.conflicts c.in-Tightest.ticks c.in-Tightest.within c.in-Tightest.bounds c.in-Tightest.design.now c.in-Tightest.proof.now (search rules) c.time_reply.ensures.stored
+
+pub time_reply-requires : goal.time_reply-requires
+time_reply-requires g c =
+    let steps = time_steps (request_seen c.args.request) c.in-Tightest.steps c.in-Tightest.conflicts c.in-Tightest.ticks c.in-Tightest.within c.in-Tightest.bounds c.in-Tightest.design.now c.in-Tightest.proof.now (search rules) c.requires.range in
+    record { at_least_one = steps.0; at_most_256 = steps.1; from_1 = steps.2; room = ap (λ (b : Budgets). b.log_bytes) c.budgets-in-Tightest.ensures }
+
+pub returns-in-Tightest-clause-tries : goal.returns-in-Tightest-clause-tries
+returns-in-Tightest-clause-tries g c = tries_other c.time_reply.result (request_seen c.args.request) (tightest c.in-Tightest.steps c.in-Tightest.conflicts c.in-Tightest.ticks c.in-Tightest.within c.in-Tightest.bounds c.in-Tightest.design.now c.in-Tightest.proof.now) (search rules) tt
+
+pub returns-in-Tightest-clause-for_some_files : goal.returns-in-Tightest-clause-for_some_files
+returns-in-Tightest-clause-for_some_files g c =
+    asks_named c.time_reply.result (request_seen c.args.request) (tightest c.in-Tightest.steps c.in-Tightest.conflicts c.in-Tightest.ticks c.in-Tightest.within c.in-Tightest.bounds c.in-Tightest.design.now c.in-Tightest.proof.now) (search rules)
+    (some_tightest c.time_reply.result c.in-Tightest.steps c.in-Tightest.conflicts c.in-Tightest.ticks c.in-Tightest.within c.in-Tightest.bounds c.budgets-in-Tightest.result c.in-Tightest.design.now c.in-Tightest.proof.now c.budgets-in-Tightest.ensures c.time_reply.ensures.for_some_files)
+
+pub returns-in-Tightest-clause-tells : goal.returns-in-Tightest-clause-tells
+returns-in-Tightest-clause-tells g c = λ files reply_for. time_tells files (request_seen c.args.request) c.in-Tightest.steps c.in-Tightest.conflicts c.in-Tightest.ticks c.in-Tightest.within c.in-Tightest.bounds c.in-Tightest.design.now c.in-Tightest.proof.now _ _ (search rules) (c.time_reply.ensures.tells files reply_for)

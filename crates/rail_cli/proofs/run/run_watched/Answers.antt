@@ -3,7 +3,7 @@ use Rattle.rail_spelling.proofs.Asked.{trial_asked}
 use Rattle.rail_words.specs.Words.{texts_of}
 use Rattle.rail_words.specs.Requests.{request_of}
 use Rattle.rail_words.proofs.Asks.{silence_has_a_cause}
-use Rattle.verify_loop.specs.declared.outcome.Outcome.TheVariants.{Memory}
+use Rattle.rail_cli.specs.Ended.{none_ended}
 use Rattle.cli_shell.specs.declared.status.Status.TheVariants.{Usage}
 use Rattle.rail_cli.specs.Answers.{answer_of}
 use Rattle.rail_cli.specs.Searches.{Leaves}
@@ -11,6 +11,8 @@ use Rattle.rail_cli.specs.Simulations.{DoneWhereFeasible}
 use Rattle.cli_shell.proofs.Deciding.{told_reply}
 use Rattle.rail_cli.proofs.Finding.{may_want, finds_so, told_so, run_so, run_infeasible, run_met, tells_plan, tells_none}
 use Rattle.rail_cli.proofs.Shortly.{no_verdict, simulated, checked, found, found_none}
+use Rattle.rail_cli.proofs.TimeShortly.{checked_in_time, found_least, found_no_time}
+use Rattle.rail_cli.proofs.TimeTelling.{tells_least, tells_no_time}
 use Rattle.rail_cli.proofs.Leaving.{told_status, run_leaves}
 use Rattle.rail_cli.proofs.Trying.{tries_trial, told_trial_reply, tells_nothing, tells_trial}
 use Rattle.cli_shell.proofs.Silence.{silent_for_memory, silent_at_shelf}
@@ -57,10 +59,10 @@ returns-in-Err-RefusedWith-clause-proven g c = λ files reply_for n d s no. tell
     (run_leaves (request_of (texts_of c.args.words.now)) c.in-Err-RefusedWith.reply.status c.print-in-Err-RefusedWith.result (g.S.Shelf.known_files c.args.shelf.now) (g.S.Shelf.known_files c.reply.new.shelf) c.in-Err-RefusedWith.reply.answered c.print-in-Err-RefusedWith.ensures.prints.status c.print-in-Err-RefusedWith.ensures.no_shelf (told_status c.in-Err-RefusedWith.field-0 c.in-Err-RefusedWith.reply (λ s. Leaves (request_of (texts_of c.args.words.now)) s (g.S.Shelf.known_files c.args.shelf.now) (g.S.Shelf.known_files c.reply.new.shelf)) c.in-Err-RefusedWith.field-0-is c.in-Err-RefusedWith.ensures.stored)) no
 
 pub returns-in-Err-Memory-clause-answer : goal.returns-in-Err-Memory-clause-answer
-returns-in-Err-Memory-clause-answer g c = λ files reply_for. (Memory, finds_so files (request_of (texts_of c.args.words.now)) Memory (may_want files (request_of (texts_of c.args.words.now))), silent_for_memory (answer_of files Memory (texts_of c.args.words.now)) _ _)
+returns-in-Err-Memory-clause-answer g c = λ files reply_for. (none_ended, finds_so files (request_of (texts_of c.args.words.now)) none_ended (may_want files (request_of (texts_of c.args.words.now))), silent_for_memory (answer_of files none_ended (texts_of c.args.words.now)) _ _)
 
 pub returns-in-Err-ShelfFault-clause-answer : goal.returns-in-Err-ShelfFault-clause-answer
-returns-in-Err-ShelfFault-clause-answer g c = λ files reply_for. (Memory, finds_so files (request_of (texts_of c.args.words.now)) Memory (may_want files (request_of (texts_of c.args.words.now))), silent_at_shelf (answer_of files Memory (texts_of c.args.words.now)) _ _)
+returns-in-Err-ShelfFault-clause-answer g c = λ files reply_for. (none_ended, finds_so files (request_of (texts_of c.args.words.now)) none_ended (may_want files (request_of (texts_of c.args.words.now))), silent_at_shelf (answer_of files none_ended (texts_of c.args.words.now)) _ _)
 
 pub returns-in-Ok-clause-tried : goal.returns-in-Ok-clause-tried
 returns-in-Ok-clause-tried g c = λ seed size asked. tells_trial seed size c.print.result _ _ _ _ c.in-Ok.reply (tries_trial (Ok c.in-Ok.reply) seed size (request_of (texts_of c.args.words.now)) asked c.in-Ok.ensures.tries) c.print.ensures.prints
@@ -153,3 +155,37 @@ returns-in-Err-Memory-clause-tried_by_line g c = λ seed size line. returns-in-E
 
 pub returns-in-Err-ShelfFault-clause-tried_by_line : goal.returns-in-Err-ShelfFault-clause-tried_by_line
 returns-in-Err-ShelfFault-clause-tried_by_line g c = λ seed size line. returns-in-Err-ShelfFault-clause-tried g c seed size (trial_asked (texts_of c.args.words.now) seed size line)
+
+pub returns-in-Ok-clause-found_least : goal.returns-in-Ok-clause-found_least
+returns-in-Ok-clause-found_least g c = λ files reply_for n w d s ends. tells_least files (texts_of c.args.words.now) n w d s c.in-Ok.reply c.print.result _ _ _ _ (c.in-Ok.ensures.replies files reply_for) c.print.ensures.prints _ _ reply_for
+    (run_leaves (request_of (texts_of c.args.words.now)) c.in-Ok.reply.status c.print.result (g.S.Shelf.known_files c.args.shelf.now) (g.S.Shelf.known_files c.reply.new.shelf) c.in-Ok.reply.answered c.print.ensures.prints.status c.print.ensures.no_shelf c.in-Ok.ensures.stored) ends
+
+pub returns-in-Ok-clause-found_no_time : goal.returns-in-Ok-clause-found_no_time
+returns-in-Ok-clause-found_no_time g c = λ files reply_for n w d s ends. tells_no_time files (texts_of c.args.words.now) n w d s c.in-Ok.reply c.print.result _ _ _ _ (c.in-Ok.ensures.replies files reply_for) c.print.ensures.prints _ _ reply_for
+    (run_leaves (request_of (texts_of c.args.words.now)) c.in-Ok.reply.status c.print.result (g.S.Shelf.known_files c.args.shelf.now) (g.S.Shelf.known_files c.reply.new.shelf) c.in-Ok.reply.answered c.print.ensures.prints.status c.print.ensures.no_shelf c.in-Ok.ensures.stored) ends
+
+pub returns-in-Ok-clause-checked_in_time : goal.returns-in-Ok-clause-checked_in_time
+returns-in-Ok-clause-checked_in_time g c = λ files told n w ms design proof line done. checked_in_time files (texts_of c.args.words.now) c.print.result _ _ _ _ (returns-in-Ok-clause-answer g c files told) n w ms design proof (returns-in-Ok-clause-infeasible g c files told n) line done
+
+pub returns-in-Ok-clause-tightest : goal.returns-in-Ok-clause-tightest
+returns-in-Ok-clause-tightest g c = λ files told n w design proof line done. found_least files (texts_of c.args.words.now) c.print.result _ _ _ _ (returns-in-Ok-clause-answer g c files told) n w design proof line (g.S.Shelf.known_files c.reply.new.shelf) (returns-in-Ok-clause-found_least g c files told n w) done
+
+pub returns-in-Ok-clause-no_time : goal.returns-in-Ok-clause-no_time
+returns-in-Ok-clause-no_time g c = λ files told n w design proof line no. found_no_time files (texts_of c.args.words.now) c.print.result _ _ _ _ (returns-in-Ok-clause-answer g c files told) n w design proof line (g.S.Shelf.known_files c.reply.new.shelf) (returns-in-Ok-clause-found_no_time g c files told n w) no
+
+pub returns-in-Err-RefusedWith-clause-found_least : goal.returns-in-Err-RefusedWith-clause-found_least
+returns-in-Err-RefusedWith-clause-found_least g c = λ files reply_for n w d s ends. tells_least files (texts_of c.args.words.now) n w d s c.in-Err-RefusedWith.reply c.print-in-Err-RefusedWith.result _ _ _ _ (told_so c.in-Err-RefusedWith.field-0 c.in-Err-RefusedWith.reply files (request_of (texts_of c.args.words.now)) c.in-Err-RefusedWith.field-0-is (c.in-Err-RefusedWith.ensures.replies files reply_for)) c.print-in-Err-RefusedWith.ensures.prints _ _ reply_for
+    (run_leaves (request_of (texts_of c.args.words.now)) c.in-Err-RefusedWith.reply.status c.print-in-Err-RefusedWith.result (g.S.Shelf.known_files c.args.shelf.now) (g.S.Shelf.known_files c.reply.new.shelf) c.in-Err-RefusedWith.reply.answered c.print-in-Err-RefusedWith.ensures.prints.status c.print-in-Err-RefusedWith.ensures.no_shelf (told_status c.in-Err-RefusedWith.field-0 c.in-Err-RefusedWith.reply (λ s. Leaves (request_of (texts_of c.args.words.now)) s (g.S.Shelf.known_files c.args.shelf.now) (g.S.Shelf.known_files c.reply.new.shelf)) c.in-Err-RefusedWith.field-0-is c.in-Err-RefusedWith.ensures.stored)) ends
+
+pub returns-in-Err-RefusedWith-clause-found_no_time : goal.returns-in-Err-RefusedWith-clause-found_no_time
+returns-in-Err-RefusedWith-clause-found_no_time g c = λ files reply_for n w d s ends. tells_no_time files (texts_of c.args.words.now) n w d s c.in-Err-RefusedWith.reply c.print-in-Err-RefusedWith.result _ _ _ _ (told_so c.in-Err-RefusedWith.field-0 c.in-Err-RefusedWith.reply files (request_of (texts_of c.args.words.now)) c.in-Err-RefusedWith.field-0-is (c.in-Err-RefusedWith.ensures.replies files reply_for)) c.print-in-Err-RefusedWith.ensures.prints _ _ reply_for
+    (run_leaves (request_of (texts_of c.args.words.now)) c.in-Err-RefusedWith.reply.status c.print-in-Err-RefusedWith.result (g.S.Shelf.known_files c.args.shelf.now) (g.S.Shelf.known_files c.reply.new.shelf) c.in-Err-RefusedWith.reply.answered c.print-in-Err-RefusedWith.ensures.prints.status c.print-in-Err-RefusedWith.ensures.no_shelf (told_status c.in-Err-RefusedWith.field-0 c.in-Err-RefusedWith.reply (λ s. Leaves (request_of (texts_of c.args.words.now)) s (g.S.Shelf.known_files c.args.shelf.now) (g.S.Shelf.known_files c.reply.new.shelf)) c.in-Err-RefusedWith.field-0-is c.in-Err-RefusedWith.ensures.stored)) ends
+
+pub returns-in-Err-RefusedWith-clause-checked_in_time : goal.returns-in-Err-RefusedWith-clause-checked_in_time
+returns-in-Err-RefusedWith-clause-checked_in_time g c = λ files told n w ms design proof line done. checked_in_time files (texts_of c.args.words.now) c.print-in-Err-RefusedWith.result _ _ _ _ (returns-in-Err-RefusedWith-clause-answer g c files told) n w ms design proof (returns-in-Err-RefusedWith-clause-infeasible g c files told n) line done
+
+pub returns-in-Err-RefusedWith-clause-tightest : goal.returns-in-Err-RefusedWith-clause-tightest
+returns-in-Err-RefusedWith-clause-tightest g c = λ files told n w design proof line done. found_least files (texts_of c.args.words.now) c.print-in-Err-RefusedWith.result _ _ _ _ (returns-in-Err-RefusedWith-clause-answer g c files told) n w design proof line (g.S.Shelf.known_files c.reply.new.shelf) (returns-in-Err-RefusedWith-clause-found_least g c files told n w) done
+
+pub returns-in-Err-RefusedWith-clause-no_time : goal.returns-in-Err-RefusedWith-clause-no_time
+returns-in-Err-RefusedWith-clause-no_time g c = λ files told n w design proof line no. found_no_time files (texts_of c.args.words.now) c.print-in-Err-RefusedWith.result _ _ _ _ (returns-in-Err-RefusedWith-clause-answer g c files told) n w design proof line (g.S.Shelf.known_files c.reply.new.shelf) (returns-in-Err-RefusedWith-clause-found_no_time g c files told n w) no

@@ -10,4 +10,4 @@ returns-clause-replies g c = (
 )
 
 pub settle-requires : goal.settle-requires
-settle-requires g c = record { says = (c.args.aim, c.verify-found.ensures.says, c.requires.named); room = c.requires.room }
+settle-requires g c = record { says = (c.args.aim, c.requires.named, c.verify-found.ensures.says); room = c.requires.room }

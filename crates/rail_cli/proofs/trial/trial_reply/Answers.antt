@@ -8,7 +8,7 @@ use Rattle.rail_cli.proofs.Trying.{want_trial, unlisted_so, listed_so}
 use Rattle.rail_cli.specs.Answers.{aim_of}
 use Rattle.rail_words.specs.declared.request.SearchMode.TheVariants.{Plain}
 use Rattle.verify_loop.specs.Telling.{TellsHowFar}
-use Rattle.verify_loop.proofs.Told.{none_told}
+use Rattle.rail_cli.proofs.Telling.{none_of}
 use Rattle.workload.specs.Made.{made}
 use Rattle.rail_cli.proofs.trial.trial_reply.Goals as goal
 
@@ -31,10 +31,10 @@ returns-clause-replies g c =
     (subst (λ (d : Station). ReadsOrEnds view (Ok made) (design_or_answer (with_routes d))) (sym same) c.in_ok-interlocking.ensures.reads) c.in_ok-tried_in.ensures.replies
 
 pub returns-in_err-design-clause-tells : goal.returns-in_err-design-clause-tells
-returns-in_err-design-clause-tells g c = none_told (aim_of Plain) (made c.args.seed c.args.size) (2 * c.args.size) _
+returns-in_err-design-clause-tells g c = none_of (aim_of Plain) (made c.args.seed c.args.size) (2 * c.args.size) _
 
 pub returns-in_err-interlocking-clause-tells : goal.returns-in_err-interlocking-clause-tells
-returns-in_err-interlocking-clause-tells g c = none_told (aim_of Plain) (made c.args.seed c.args.size) (2 * c.args.size) _
+returns-in_err-interlocking-clause-tells g c = none_of (aim_of Plain) (made c.args.seed c.args.size) (2 * c.args.size) _
 
 pub returns-in_err-tried_in-clause-tells : goal.returns-in_err-tried_in-clause-tells
 returns-in_err-tried_in-clause-tells g c =

@@ -3,8 +3,7 @@ use Rattle.verify_loop.specs.declared.outcome.Aim.{Aim}
 use Rattle.verify_loop.specs.declared.outcome.Budgets.{Budgets}
 use Rattle.verify_loop.specs.Outcomes.{IsOutcome, Fits}
 use Rattle.verify_loop.specs.Telling.{TellsHowFar}
-use Rattle.rail_cli.specs.Answers.{trial_conflicts, trial_ticks}
-use Rattle.rail_cli.specs.Searches.{budgets_of}
+use Rattle.rail_cli.specs.Answers.{budgets_of, trial_conflicts, trial_ticks}
 use Rattle.rail_cli.proofs.trial.tried_in.Goals as goal
 
 pub returns-clause-replies : goal.returns-clause-replies

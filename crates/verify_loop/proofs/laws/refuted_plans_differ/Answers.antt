@@ -2,4 +2,4 @@ use Rattle.verify_loop.proofs.Differing.{plans_differ}
 use Rattle.verify_loop.proofs.laws.refuted_plans_differ.Goals as goal
 
 pub returns : goal.returns
-returns c = λ m d good n some known rs refuted. plans_differ m d good n some known rs refuted
+returns c = λ base d good n some known rs refuted. plans_differ base d good n some known rs refuted

@@ -1,4 +1,4 @@
-use Rattle.std.proofs.Common.{List, ◌++◌, sym, ap, subst, ◌∙◌, arith, append-nil}
+use Rattle.std.proofs.Common.{◌≡◌, ℕ, ◌+◌, List, ◌++◌, sym, ap, subst, ◌∙◌, arith, append-nil}
 use Rattle.std.proofs.lemmas.List.{take_all}
 use Rattle.bound_spec.specs.declared.Evidence.{Evidence}
 use Rattle.clause_spec.specs.declared.question.BaseKind.{BaseKind}
@@ -7,7 +7,7 @@ use Rattle.order_bounds.specs.Orders.{said_of}
 use Rattle.plan_encoding.specs.Bases.{speaks_of}
 use Rattle.rail_base.specs.declared.plan.Command.{Command}
 use Rattle.rail_spec.specs.Track.{routes_of}
-use Rattle.verify_loop.specs.Asking.{IsBeginning, IsPairList, said_before}
+use Rattle.verify_loop.specs.Asking.{IsBeginning, IsPairList, said_before, said_to}
 use Rattle.verify_loop.proofs.Begun.{listed_so}
 use Rattle.verify_loop.proofs.Ordering.{said_next, said_whole}
 use Rattle.verify_loop.proofs.rounds.PlanSearch.with_order.Goals as goal

@@ -1,11 +1,11 @@
-use Rattle.std.proofs.Common.{◌≡◌, ◌+◌, false, List, [], ◌∷◌, ◌++◌, take, slice_index_or, Vec, Global, sym, ap, subst, ◌∙◌, append_assoc}
+use Rattle.std.proofs.Common.{◌≡◌, ℕ, ◌+◌, false, List, [], ◌∷◌, ◌++◌, filter, take, slice_index_or, Vec, Global, sym, ap, subst, ◌∙◌, append_assoc}
 use Rattle.bound_spec.specs.declared.Evidence.{Evidence}
 use Rattle.bound_spec.specs.declared.Evidence.TheVariants as evidence
 use Rattle.clause_spec.specs.declared.question.BaseKind.{BaseKind}
 use Rattle.live_clause_spec.specs.Live.{is_live}
 use Rattle.live_clause_spec.specs.Variables.{live_pairs}
 use Rattle.order_bounds.specs.Asked.{IsLineOfOrder, says_first_of}
-use Rattle.order_bounds.specs.Orders.{bound_by, makes_both, said_of}
+use Rattle.order_bounds.specs.Orders.{bound_by, makes_both, orders_first, said_of}
 use Rattle.order_bounds.proofs.Paired.{in_at}
 use Rattle.plan_encoding.specs.Bases.{speaks_of}
 use Rattle.proof_judge.specs.Written.{IsEvidenceLine}
@@ -15,7 +15,7 @@ use Rattle.rail_base.specs.Members.{In}
 use Rattle.rail_base.proofs.Lists.{in_filter_back}
 use Rattle.rail_spec.specs.Track.{routes_of}
 use Rattle.verify_loop.specs.Asking.{EndsWith, IsAdded, IsBeginning, IsLeftOut, said_before, said_to}
-use Rattle.verify_loop.specs.Outcomes.{known_first}
+use Rattle.verify_loop.specs.Quests.{by_itself}
 use Rattle.verify_loop.specs.declared.outcome.Outcome.{Outcome}
 use Rattle.verify_loop.specs.declared.rounds.SearchState.{SearchState}
 use Rattle.verify_loop.proofs.Begun.{err_more, left_out_so, line_is, none_told, ok_more, same_at, says_is, some_told}
@@ -57,7 +57,7 @@ returns-in-Ok-Some-clause-begun c =
     let grown : said_to q o (take k ps) ++ (e ∷ []) ≡ said_to q o (take (k + 1) ps) =
     append_assoc (said_before q o) (said_of m.base d n o (take k ps)) (e ∷ []) ∙ ap (λ (es : List Evidence). said_before q o ++ es) (sym (said_with m.base d n o ps k p c.requires.place (same_at ps k nothing p c.requires.place) said)) in
     ok_more c.add_line.result (IsAdded one l) (λ (s : SearchState). IsBeginning q s (said_to q o (take (k + 1) ps))) (λ (s : SearchState) a. subst (IsBeginning q s) grown
-    (begun_more m d n q.budgets one.solver.arena one.solver.recorder one.solver.learnt.items one.solver.vars one.solver.derives one.failed.items one.sum one.steps (said_to q o (take k ps)) c.requires.begun e l.line.items l.clause.items w
+    (begun_more (by_itself m d n) d n q.budgets one.solver.arena one.solver.recorder one.solver.learnt.items one.solver.vars one.solver.derives one.failed.items one.sum one.steps (said_to q o (take k ps)) c.requires.begun e l.line.items l.clause.items w
     s.solver.arena s.solver.recorder s.solver.learnt.items s.solver.vars s.solver.derives s.failed.items s.sum s.steps
     a.clauses a.learnt a.text a.limit a.vars a.derives (ap (λ (f : Vec Plan Global). f.items) a.failed) a.sum a.steps)) c.add_line.ensures.added
 
@@ -79,11 +79,20 @@ returns-in-Ok-Some-clause-ends c =
     let said = sym (says_is b m.base i n c.by_design.ensures.kind c.by_design.ensures.interlocking c.by_design.ensures.steps o p) ∙ told.0 in
     let w : IsEvidenceLine m.base d n e l.line.items l.clause.items = line_is b m.base i n c.by_design.ensures.kind c.by_design.ensures.interlocking c.by_design.ensures.steps e l.line.items l.clause.items told.1 in
     let one = c.args.search in
-    let first : known_first m d n ≡ said_to q o (take k ps) ++ (e ∷ behind m.base d n o c.requires.at_least_one c.requires.within ps c.requires.pairs k p c.requires.place (same_at ps k nothing p c.requires.place)) =
+    let first : orders_first m.base d n ≡ said_to q o (take k ps) ++ (e ∷ behind m.base d n o c.requires.at_least_one c.requires.within ps c.requires.pairs k p c.requires.place (same_at ps k nothing p c.requires.place)) =
     live_first m.base c.requires.live.0 d n c.requires.live.1 ∙ all_split m.base d n o c.requires.at_least_one c.requires.within ps c.requires.pairs k p c.requires.place (same_at ps k nothing p c.requires.place) said in
-    err_more c.add_line.result (IsLeftOut one l) (EndsWith q) (λ (x : Outcome) h. left_out_so one l m d n q.budgets x h
-    (begun_full m d n q.budgets one.solver.arena one.solver.recorder one.solver.learnt.items one.solver.vars one.solver.derives one.failed.items one.sum one.steps (said_to q o (take k ps)) c.requires.begun e l.line.items l.clause.items w
-    (behind m.base d n o c.requires.at_least_one c.requires.within ps c.requires.pairs k p c.requires.place (same_at ps k nothing p c.requires.place)) first)) c.add_line.ensures.left
+    err_more c.add_line.result (IsLeftOut one l) (EndsWith q) (λ (x : Outcome) h. left_out_so one l (EndsWith q) x h
+    (λ log bytes next failed same e_bytes e_next past lost. (
+      tt,
+      (
+        orders_first m.base d n,
+        0,
+        c.requires.first,
+        begun_full (by_itself m d n) d n q.budgets one.solver.arena one.solver.recorder one.solver.learnt.items one.solver.vars one.solver.derives one.failed.items one.sum one.steps (said_to q o (take k ps)) c.requires.begun e l.line.items l.clause.items w
+            (behind m.base d n o c.requires.at_least_one c.requires.within ps c.requires.pairs k p c.requires.place (same_at ps k nothing p c.requires.place)) first log.items bytes next same e_bytes e_next past failed.items lost,
+      ),
+    ))
+    (tt, (orders_first m.base d n, 0, c.requires.first, tt))) c.add_line.ensures.left
 
 pub returns-in-Ok-None-clause-begun : goal.returns-in-Ok-None-clause-begun
 returns-in-Ok-None-clause-begun c =
