@@ -9,7 +9,7 @@ from pathlib import Path
 TOP = Path(__file__).resolve().parents[2]
 CALL = TOP / "crates/rail_cli/src/run.rt"
 PAGE = TOP / "docs/BELIEVE.md"
-PROMISES = ["simulated", "found", "checked", "found_none", "tried_by_line"]
+PROMISES = ["simulated", "found", "checked", "found_none", "tightest", "no_time", "checked_in_time", "tried_by_line"]
 NAME = re.compile(r"[A-Za-z_][\w']*(?:-[A-Za-z][\w']*)*")
 USE = re.compile(r"^\s*(?:ghost )?(?:pub )?use Rattle\.([\w.\-]+?)(?:\.\{([^}]*)\})?(?: as (\w+))?;?\s*$", re.M)
 DEFINES = re.compile(r"^\s*(?:(?:abbrev|unfoldable) )?(?:pub )?(?:(?:abbrev|unfoldable|record|data) )?([A-Za-z_][\w'\-]*)")
@@ -20,8 +20,9 @@ CLAUSE = re.compile(r"ensures (\w+) \{(.*?)\}\s*(?=\n\s*(?:ensures|//|\n|$)|\Z)"
 QUALIFIED = re.compile(r"\b([A-Za-z_]\w*)\.([A-Za-z_][\w'\-]*)")
 # in the prose of the page: a file with its lines, and how many definitions of how many lines a promise rests on
 FILE_LINES = re.compile(r"`([\w/.\-]+\.(?:rt|antt))`\s+\(([\d,]+)(?:\s+lines)?[;)]")
-RESTS = re.compile(r"\b([MPINT])\s+(?:rests\s+)?on\s+(\d+)(?:\s+definitions,\s+which\s+are|)\s+\(?([\d,]+)")
-LETTERS = {"simulated": "M", "found": "P", "checked": "I", "found_none": "N", "tried_by_line": "T"}
+RESTS = re.compile(r"\b([MPINLUCT])\s+(?:rests\s+)?on\s+(\d+)(?:\s+definitions,\s+which\s+are|)\s+\(?([\d,]+)")
+LETTERS = {"simulated": "M", "found": "P", "checked": "I", "found_none": "N", "tightest": "L", "no_time": "U", "checked_in_time": "C",
+           "tried_by_line": "T"}
 
 
 def uses(text):

@@ -220,6 +220,7 @@ SLIGHT = (near_number, near_number, near_number, other_number, pattern_broken(ST
 HEADS = (
     b"rcvlog 1", b"rcvlog 5 1 2", b"rcvlog 5 1 3", b"rcvlog 4 1 2", b"rcvlog 4 1 3", b"rcvlog 4 1 4", b"rcvlog 2 1 2", b"rcvlog 4 2 2", b"rcvlog 4 1 0", b"rcvlog 1\r", b"",
     b"rcvlog 4 1 18446744073709551616", b"rcvlog", b"RCVLOG 1", b"rcvlog 2 1 3", b"rcvlog 2 1 4", b"rcvlog 2 2 2", b"rcvlog 3 1 2",
+    b"rcvlog 6 1 2 1", b"rcvlog 6 1 4 1", b"rcvlog 6 1 2 0", b"rcvlog 6 1 2 2", b"rcvlog 6 1 2",
 )  # fmt: skip
 
 PROOF_LINES = (
@@ -287,8 +288,8 @@ def broken(chance, text, ways, other):
 # The words of a command line.
 
 ODD_WORDS = (
-    b"", b"-", b"--", b"-x", b"--help", b"-h", b"--version", b"-V", b"help", b"--bounds", b"--steps", b"--steps=2", b"--step", b"--conflicts=9",
-    b"--ticks", b"-1", b"--bounds=true", b"simulate", b"routes", b"verify", b"check", b"trial", b"explain", b"\xff\xfe", b"design.toml\xff", b"\xed\xa0\x80",
+    b"", b"-", b"--", b"-x", b"--help", b"-h", b"--version", b"-V", b"help", b"--bounds", b"--within", b"--within=1", b"--max-ms=8000", b"--steps", b"--steps=2", b"--step", b"--conflicts=9",
+    b"--ticks", b"-1", b"--bounds=true", b"simulate", b"routes", b"verify", b"tightest", b"check", b"trial", b"explain", b"\xff\xfe", b"design.toml\xff", b"\xed\xa0\x80",
     "é".encode(), b"n" * 10_000, b"-" * 10_000, b"--" + b"s" * 10_000, b" ", b"a b", b"\n", b"\x01", b"none.toml", b".", b"..", b"design.toml/",
     b"./design.toml", b"design.toml", b"plan.json", b"proof.txt", b"new.txt", b"none/new.txt", b"%s%n", b"$HOME", b"*",
 )  # fmt: skip

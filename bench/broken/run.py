@@ -3,8 +3,8 @@
 
 The files are those of `stations` and of the worked examples. Each run has to end by itself within the time, with a status of the table
 in docs/COMMANDS.md and a text of that status by whole lines; nothing stands on standard error; and nothing is stored but a proof, after a
-search that ends with status 1, which a check of the same steps accepts. One seed gives the same runs each time, in whatever order they
-are made. The status is 1 where some run breaks a rule. `--case` makes one run again and leaves its files.
+search that ends with status 1, or with 0 and a least time above 0, which a check of the same steps accepts. One seed gives the same
+runs each time, in whatever order they are made. The status is 1 where some run breaks a rule. `--case` makes one run again and leaves its files.
 """
 
 import argparse
@@ -19,6 +19,7 @@ import signal
 import sys
 import tempfile
 import time
+import tomllib
 
 import breaks
 import corpus
@@ -34,17 +35,17 @@ SECOND = {
 }
 
 OLDER = b"rcvlog 1\nan older file\n"
-COMMANDS = ("simulate", "routes", "verify", "check", "trial")
-USAGE = (
-    rb"usage: rcv simulate DESIGN PLAN; rcv routes DESIGN; rcv verify [--normal] --steps N --conflicts C --ticks T "
-    rb"DESIGN PROOF; "
-    rb"rcv check --steps N DESIGN PROOF; rcv trial SEED SIZE\n"
+COMMANDS = ("simulate", "routes", "verify", "tightest", "check", "trial")
+USAGE = re.escape(
+    b"usage: rcv simulate DESIGN PLAN; rcv routes DESIGN; rcv verify [--normal] --steps N --conflicts C --ticks T "
+    b"DESIGN PROOF; rcv tightest --steps N --conflicts C --ticks T --within W DESIGN PROOF; "
+    b"rcv check [--within W --max-ms X] --steps N DESIGN PROOF; rcv trial SEED SIZE\n"
 )
 
 # The texts of each status, and of those that differ by the command its texts for each.
 TEXTS = {
     2: USAGE,
-    3: rb"design refused D(0[1-9]|1[0-4]) [^\n]+\n",
+    3: rb"design refused D(0[1-9]|1[0-5]) [^\n]+\n",
     4: rb"plan refused P[1-4] [^\n]+\n",
     5: rb"(trial [^\n]+\nnodes [^\n]+\n)?conflicts spent \d+\n",
     7: rb"",
@@ -56,6 +57,8 @@ TEXTS = {
     (0, "routes"): rb"(route \d+ \S+ \S+ length \d+ sections [^\n]+\n)+",
     (0, "verify"): rb'plan steps \d+\n\{"steps":[^\n]+\}\nmet tick \d+\ntrain [\s\S]*\n',
     (1, "verify"): rb"infeasible steps \d+\n",
+    (0, "tightest"): rb'tightest within \d+ ms \d+\nplan steps \d+\n\{"steps":[^\n]+\}\nmet tick \d+\ntrain [\s\S]*\n',
+    (1, "tightest"): rb"infeasible steps \d+\n",
     (0, "check"): rb"yes steps \d+\n",
     (1, "check"): rb"no line \d+ [^\n]+\n",
     (0, "trial"): rb"trial [^\n]+\nnodes [^\n]+\nplan steps \d+ tick \d+\n",
@@ -79,6 +82,18 @@ def budgets(chance):
     return words
 
 
+def within_asked(chance):
+    """The within of a search for the least time or of a check: mostly the first."""
+    return ["--within", "1" if chance.random() < 0.8 else chance.choice(("2", "3", "4", "256"))]
+
+
+def time_asked(chance):
+    """Now and then a greatest time that is put into a within for a check."""
+    if chance.random() < 0.8:
+        return []
+    return [*within_asked(chance), "--max-ms", chance.choice(("0", "999", "7000", "8000", "9000", "200000", "600000", "86400000"))]
+
+
 def steps_asked(chance, steps):
     """The steps of a check: mostly those that a proof was written for."""
     return steps if chance.random() < 0.8 else chance.choice(("1", "2", "3", "4", "5", "8", "64", "256"))
@@ -87,20 +102,21 @@ def steps_asked(chance, steps):
 def sound_case(chance):
     """A command over files that belong to each other, none of them broken."""
     station = chance.choice(SOUND if chance.random() < 0.9 else STATIONS)
-    command = chance.choice(("simulate", "simulate", "routes", "verify", "verify", "check", "check", "check", "check"))
+    command = chance.choice(("simulate", "simulate", "routes", "verify", "verify", "tightest", "tightest", "check", "check", "check", "check"))
     files = {"design.toml": station.design}
     if command == "simulate":
         files["plan.json"] = chance.choice(station.plans)
         words = [command, "design.toml", "plan.json"]
     elif command == "routes":
         words = [command, "design.toml"]
-    elif command == "verify":
-        words = [command, *budgets(chance), "design.toml", "new.txt"]
+    elif command in ("verify", "tightest"):
+        more = within_asked(chance) if command == "tightest" else []
+        words = [command, *budgets(chance), *more, "design.toml", "new.txt"]
         if chance.random() < 0.5:
             files["new.txt"] = OLDER
     else:
         steps, files["proof.txt"] = chance.choice(station.proofs)
-        words = [command, "--steps", steps_asked(chance, steps), "design.toml", "proof.txt"]
+        words = [command, *time_asked(chance), "--steps", steps_asked(chance, steps), "design.toml", "proof.txt"]
     return Case([word.encode() for word in words], files)
 
 
@@ -199,11 +215,20 @@ def names_of(words):
     for word in rest:
         if word == b"--":
             return names + list(rest)
-        if word in (b"--steps", b"--conflicts", b"--ticks"):
+        if word in (b"--steps", b"--conflicts", b"--ticks", b"--within", b"--max-ms"):
             next(rest, None)
         elif word == b"-" or not word.startswith(b"-"):
             names.append(word)
     return names
+
+
+def option_of(words, option):
+    """The value of an option, or nothing where it is not there."""
+    for place, word in enumerate(words):
+        name, joined, value = word.partition(b"=")
+        if name == option:
+            return value if joined else words[place + 1]
+    return b""
 
 
 def command_of(words):
@@ -228,42 +253,81 @@ def text_faults(words, ended):
         yield f"on standard error: {ended.error[:200]!r}"
 
 
+def has_proof(words, ended):
+    """Whether a search has stored a proof."""
+    is_least = command_of(words) == "tightest" and ended.status == 0
+    return ended.text.split()[4] != b"0" if is_least else command_of(words) in ("verify", "tightest") and ended.status == 1
+
+
+def time_shown(words, design, text):
+    """The options of a check with the time that a stored proof shows to be too little: none of a search for a plan. The design is read
+    here by Python's reader, which takes less than the program's: where it doesn't, there are none to tell."""
+    if command_of(words) != "tightest":
+        return []
+    try:
+        read = tomllib.loads(pathlib.Path(os.fsdecode(design)).read_text())
+    except ValueError:
+        return None
+    tick = read["tick_ms"]
+    most = int(text.split()[4]) - tick if text.startswith(b"tightest") else read["horizon_ms"] // tick * tick
+    return [b"--within", option_of(words, b"--within"), b"--max-ms", b"%d" % most]
+
+
+def proof_faults(runner, case, ended, names):
+    """What is wrong with a proof that is stored."""
+    steps = b"%d" % int(option_of(case.words, b"--steps"))
+    shown = time_shown(case.words, names[0], ended.text)
+    if shown is not None:
+        told = runner.run([b"check", *shown, b"--steps", steps, b"--", *names])
+        if (told.status, told.text) != (0, b"yes steps " + steps + b"\n"):
+            yield f"a check of what is stored ends with status {told.status} and {told.text[:200]!r}"
+
+
 def stored_faults(runner, case, ended):
     """What is wrong with what a run stored."""
     after = standing()
     changed = sorted(name for name in after.keys() | case.files.keys() if after.get(name) != case.files.get(name))
-    is_stored = ended.status == 1 and command_of(case.words) == "verify"
+    is_stored = has_proof(case.words, ended)
     if not changed:
         if is_stored:
-            yield "infeasible, and nothing is stored"
+            yield "there is a proof, and nothing is stored"
         return
     names = [os.path.normpath(name) for name in names_of(case.words)]
     if not is_stored or len(names) != 2 or changed != [os.fsdecode(names[1])]:
         yield f"status {ended.status} changes {' '.join(changed)[:200]}"
     elif names[0] != names[1]:
-        steps = ended.text.split()[-1:]
-        told = runner.run([b"check", b"--steps", *steps, b"--", *names])
-        if (told.status, told.text) != (0, b"yes steps " + b"".join(steps) + b"\n"):
-            yield f"a check of what is stored ends with status {told.status} and {told.text[:200]!r}"
+        yield from proof_faults(runner, case, ended, names)
+
+
+def plan_faults(runner, case, ended):
+    """What is wrong with a plan that is found: it has to be met, but for the within whose least time was asked for."""
+    is_least = command_of(case.words) == "tightest"
+    *_, plan, timetable = ended.text.split(b"\n", 3 if is_least else 2)
+    pathlib.Path("found.json").write_bytes(plan)
+    told = runner.run([b"simulate", b"--", names_of(case.words)[0], b"found.json"])
+    within = b"fails within %d " % int(option_of(case.words, b"--within")) if is_least else b"\n"
+    if (told.status, told.text) != (0, timetable) and not told.text.startswith(within):
+        yield f"its plan ends with status {told.status} and {told.text[:200]!r}"
+
+
+def yes_faults(runner, case, ended):
+    """What is wrong with a check that is answered with yes: a search finds no plan, or none with the time that was put in."""
+    within, most = option_of(case.words, b"--within"), option_of(case.words, b"--max-ms")
+    budgets = [b"--steps", ended.text.split()[-1], b"--conflicts", b"1000", b"--ticks", b"10000"]
+    asked = [b"tightest", *budgets, b"--within", within] if within else [b"verify", *budgets]
+    told = runner.run([*asked, b"--", names_of(case.words)[0], b"found.txt"])
+    takes_longer = within and told.status == 0 and int(most) < int(told.text.split()[4])
+    if told.status not in (1, 5, 9) and not takes_longer:
+        yield f"a search ends with status {told.status} and {told.text[:200]!r}"
 
 
 def answer_faults(runner, case, ended):
-    """What is wrong with an answer by what other commands say: a plan that is found has to be met, and where there is no plan, none is found."""
+    """What is wrong with an answer by what other commands say."""
     command = command_of(case.words)
-    if ended.status != 0 or command not in ("verify", "check"):
-        return
-    design = names_of(case.words)[0]
-    if command == "verify":
-        _, plan, timetable = ended.text.split(b"\n", 2)
-        pathlib.Path("found.json").write_bytes(plan)
-        told = runner.run([b"simulate", b"--", design, b"found.json"])
-        if (told.status, told.text) != (0, timetable):
-            yield f"its plan ends with status {told.status} and {told.text[:200]!r}"
-    else:
-        steps = ended.text.split()[-1]
-        told = runner.run([b"verify", b"--steps", steps, b"--conflicts", b"1000", b"--ticks", b"10000", b"--", design, b"found.txt"])
-        if told.status not in (1, 5, 9):
-            yield f"a search ends with status {told.status} and {told.text[:200]!r}"
+    if ended.status == 0 and command in ("verify", "tightest"):
+        yield from plan_faults(runner, case, ended)
+    elif ended.status == 0 and command == "check":
+        yield from yes_faults(runner, case, ended)
 
 
 def faults_of(runner, case, ended, bar):

@@ -1,9 +1,11 @@
 #!/usr/bin/env python3
-"""check.py [--steps N] DESIGN PROOF
+"""check.py [--within W --max-ms X] [--steps N] DESIGN PROOF
 
 Says what a proof file shows of a design, as `rcv check` does: `yes steps <k>`, or `no line <l> <reason>`. It does what
 docs/PROOF-FORMAT.md says, with docs/DEFINITIONS.md and docs/DESIGNERS.md, and takes for granted that the design is
-admitted. Without --steps the head of the file has to name the number of steps."""
+admitted. With --within and --max-ms the design is that of the file with another greatest time in one within. Without
+--steps the head of the file has to name the number of steps."""
+import copy
 import sys
 import tomllib
 
@@ -100,7 +102,15 @@ class Design:
                          w["max_ms"] // tick, w["max_ms"]) for w in file.get("within", [])]
         self.find_routes()
         self.T, self.R = len(self.trains), len(self.routes)
-        self.bases = {}
+        self.bases, self.timed = {}, {}
+
+    def with_time(self, within, max_ms):
+        """The same design with another greatest time in a within of it."""
+        if (within, max_ms) not in self.timed:
+            other = self.timed[within, max_ms] = copy.copy(self)
+            other.withins, other.bases, other.timed = list(self.withins), {}, {}
+            other.withins[within - 1] = self.withins[within - 1][:4] + (max_ms // self.tick, max_ms)
+        return self.timed[within, max_ms]
 
     def find_routes(self):
         self.routes = []
@@ -310,12 +320,12 @@ class Base:
         for q in onward:
             yield from self.chains(chain + [q], clear)
 
-    def turn_clauses(self, within):
-        """The turns, of all trains, or of those that the greatest time of this number doesn't name."""
+    def turn_clauses(self, within=None):
+        """The clauses that trains which are alike come in turn: all of them, or those that a within doesn't name."""
         if within not in self.turns:
-            turns = self.turns[within] = []
+            self.turns[within] = turns = []
             design = self.design
-            named = () if within is None else (design.withins[within - 1][0], design.withins[within - 1][2])
+            named = () if within is None else design.withins[within - 1][0:3:2]
             trains = [t for t in range(1, design.T + 1) if t not in named]
             for place, t in enumerate(trains):
                 u = next((u for u in trains[place + 1:] if are_alike(design, t, u)), None)
@@ -439,7 +449,7 @@ def some(found):
 
 
 def head_of(text):
-    """None, or the version of the file with the version of the design, the steps and the greatest time that it names."""
+    """None, or the version of the file with the version of the design, the steps and the within that it names, if any."""
     try:
         words = Words(text)
         if words.text() != b"rcvlog":
@@ -1147,6 +1157,17 @@ def base_for(design, n, of_live):
     return design.bases[n, of_live]
 
 
+def literals(clauses):
+    return sum(len(clause) for clause in clauses)
+
+
+def is_asked(head, design, n):
+    """Whether what a head names is what is asked: the version of the design, the steps, and a within that is there."""
+    version, of_design, steps, within = head
+    return version == 1 or (of_design, steps) == (design.version, n) \
+        and (within is None or 1 <= within <= len(design.withins))
+
+
 def judge(design, n, data):
     """What a file shows of a design for n steps."""
     if len(data) > MOST_BYTES:
@@ -1158,18 +1179,17 @@ def judge(design, n, data):
     head = head_of(lines[0]) if lines and ends[0] else None
     of_live = head is not None and head[0] in (5, 6)
     base = base_for(design, n, of_live)
-    many = lambda clauses: sum(len(clause) for clause in clauses)
-    if not of_live and many(base.clauses) > LITERALS:
+    if not of_live and literals(base.clauses) > LITERALS:
         return "design refused D14 base"
     if not lines:
         return "no line 1 no final line"
     if head is None:
         return "no line 1 text"
-    if head[0] != 1 and head[1:3] != (design.version, n) or head[0] == 6 and not 1 <= head[3] <= len(design.withins):
+    if not is_asked(head, design, n):
         return "no line 1 head differs"
     more, last = base.behind(head[0], head[3])
     clauses = base.clauses + more
-    if many(clauses) > LITERALS:
+    if literals(clauses) > LITERALS:
         return "no line 1 base too large"
     log, shown = Log(base, clauses, last), None
     for number, (text, ended) in enumerate(zip(lines, ends), 1):
@@ -1183,22 +1203,44 @@ def judge(design, n, data):
     return f"no line {len(lines) + 1} no final line" if shown is None else f"yes steps {shown}"
 
 
+def judge_in_time(design, time, n, data):
+    """The same, where a within of the design has another greatest time, if one is given: its number and the ms."""
+    if time is None:
+        return judge(design, n, data)
+    if time[0] > len(design.withins):
+        is_large = literals(base_for(design, n, False).clauses) > LITERALS
+        return "design refused D14 base" if is_large else "design refused D15 within"
+    return judge(design.with_time(*time), n, data)
+
+
+USAGE = "usage: check.py [--within W --max-ms X] [--steps N] DESIGN PROOF"
+
+
+def options(words):
+    """The numbers behind the options, and the words behind these."""
+    given = {}
+    while words[:1] and words[0] in ("--within", "--max-ms", "--steps") and len(words) > 1:
+        given[words[0]] = int(words[1])
+        words = words[2:]
+    if len(words) != 2 or ("--within" in given) != ("--max-ms" in given):
+        sys.exit(USAGE)
+    return given, words
+
+
 def main(words):
-    steps = None
-    if words[:1] == ["--steps"] and len(words) > 1:
-        steps, words = int(words[1]), words[2:]
-    if len(words) != 2:
-        sys.exit("usage: check.py [--steps N] DESIGN PROOF")
+    given, words = options(words)
     with open(words[0], "rb") as file:
         design = Design(file.read())
     with open(words[1], "rb") as file:
         data = file.read()
+    steps = given.get("--steps")
     if steps is None:
         head = head_of(data.split(b"\n")[0])
         if head is None or head[0] == 1 or not 1 <= head[2] <= 256:
-            sys.exit("usage: check.py [--steps N] DESIGN PROOF")
+            sys.exit(USAGE)
         steps = head[2]
-    answer = judge(design, steps, data)
+    time = (given["--within"], given["--max-ms"]) if "--within" in given else None
+    answer = judge_in_time(design, time, steps, data)
     print(answer)
     return 0 if answer.startswith("yes") else 1
 

@@ -237,9 +237,8 @@ def made_file(chance, text, n):
     line = " ".join(map(str, words)).encode()
     version = chance.choice((4, 5, 6) if design.withins else (4, 5))
     within = chance.randrange(1, 1 + len(design.withins)) if version == 6 else None
-    named = b" %d" % within if version == 6 else b""
-    lines = [b"rcvlog %d %d %d" % (version, design.version, n) + named, line]
-    base = check.base_for(design, n, version in (5, 6))
+    lines = [b"rcvlog %d %d %d" % (version, design.version, n) + (b" %d" % within if within else b""), line]
+    base = check.base_for(design, n, version != 4)
     more, last = base.behind(version, within)
     log = check.Log(base, base.clauses + more, last)
     try:

@@ -2,11 +2,12 @@
 """Compares what check.py and `rcv check` say of proof files.
 
 The files are those that `rcv verify` stores, plainly, with `--bounds` and with `--normal`, for designs of `stations` and
-`bench/stations`, and those of the worked examples of `crates/rail_vectors`. Each case takes one of them and mostly
-changes it once by chance, or with `--made` makes a file for its design with one line of a cone or a bound; and asks
-both. Printed are how many answers agree, how often each was given, and every case in which the two differ; the status
-is 1 where there is one. One seed gives the same cases each time. With `--keep` the files of cases that differ are
-left in a folder.
+`bench/stations`, those that `rcv tightest` stores for them, plainly and with `--bounds`, and those of the worked examples
+of `crates/rail_vectors`. Each case takes one of them and mostly changes it once by chance, or with `--made` makes a file
+for its design with one line of a cone or a bound; and asks both, with a greatest time put in where the file needs one, or
+now and then another. Printed are how many answers agree, how often each was given, and every case in which the two
+differ; the status is 1 where there is one. One seed gives the same cases each time. With `--keep` the files of cases that
+differ are left in a folder.
 """
 
 import argparse
@@ -40,7 +41,8 @@ terminus-2-over 5, terminus-2-tight 4, terminus-3-tight 5
 yard-2-over 6, yard-2-tight 4
 """
 
-File = collections.namedtuple("File", "name design steps proof")
+# A proof file with its design and its steps, and the within and its greatest time in ms that are put in, or None.
+File = collections.namedtuple("File", "name design steps proof time")
 
 
 def asked_for():
@@ -88,19 +90,29 @@ def of_version(design, version):
     return design.replace(b"version = 1", b"version = %d" % version) + overlaps
 
 
+def time_shown(design, told):
+    """The greatest time of within 1 for which a search for the least time has stored a proof: a tick less than that, or
+    where it found no plan the horizon."""
+    words, read = told.split(), check.Design(design)
+    return (1, int(words[4]) - read.tick if words[:1] == ["tightest"] else read.horizon * read.tick)
+
+
 def stored(program, folder, version):
     """The files that searches within small budgets store, each with the design and the steps that it was made for."""
     for path, steps in asked_for():
         design = folder / "stored.toml"
         design.write_bytes(of_version(path.read_bytes(), version))
-        for way in ([], ["--bounds"], ["--normal"]):
+        ways = [["verify"], ["verify", "--bounds"], ["verify", "--normal"]]
+        if check.Design(design.read_bytes()).withins:
+            ways += [["tightest", "--within", "1"], ["tightest", "--within", "1", "--bounds"]]
+        for way in ways:
             proof = folder / "stored"
             proof.unlink(missing_ok=True)
-            words = ["verify", "--steps", str(steps), "--conflicts", "3000", "--ticks", "300000", *way, design, proof]
-            subprocess.run([program, *words], stdout=subprocess.DEVNULL)
+            words = [*way, "--steps", str(steps), "--conflicts", "3000", "--ticks", "300000", design, proof]
+            told = subprocess.run([program, *words], stdout=subprocess.PIPE).stdout.decode()
             if proof.exists():
-                name = " ".join([path.stem, str(steps), *way])
-                yield File(name, design.read_bytes(), steps, proof.read_bytes())
+                shown = time_shown(design.read_bytes(), told) if way[0] == "tightest" else None
+                yield File(" ".join([path.stem, str(steps), *way]), design.read_bytes(), steps, proof.read_bytes(), shown)
             else:
                 print("nothing stored:", path.stem, steps, *way)
 
@@ -110,7 +122,7 @@ def examples(version):
     for number, station in enumerate(corpus.stations(refused=False)):
         for place, (steps, proof) in enumerate(station.proofs):
             if 1 <= int(steps) <= 256:
-                yield File(f"example {number}.{place}", of_version(station.design, version), int(steps), proof)
+                yield File(f"example {number}.{place}", of_version(station.design, version), int(steps), proof, None)
 
 
 def line_of(chance, lines):
@@ -179,18 +191,28 @@ def forget(chance, lines):
 
 def other_head(chance, lines):
     steps = chance.randrange(1, 9)
-    lines[0] = chance.choice((b"rcvlog 1", b"rcvlog 2", b"rcvlog 4 1 2", b"rcvlog 5 1 2",
-                              *(b"rcvlog %d 1 %d" % (version, steps) for version in (2, 3, 4, 5)),
-                              *(b"rcvlog 6 1 %d %d" % (steps, within) for within in (0, 1, 2))))
+    within = chance.randrange(0, 4)
+    lines[0] = chance.choice((b"rcvlog 1", b"rcvlog 2", b"rcvlog 4 1 2", b"rcvlog 5 1 2", b"rcvlog 6 1 2",
+                              b"rcvlog 6 1 %d %d" % (steps, within), lines[0] + b" %d" % within,
+                              *(b"rcvlog %d 1 %d" % (version, steps) for version in (2, 3, 4, 5))))
 
 
 CHANGES = [other_number] * 20 + [sign, drop_line, swap_lines] * 2 + [other_word, double_line, forget, other_head]
 
 
+def other_time(chance, given):
+    """The time that is put in, and now and then another: none, a tick more or less, 0, or that of another within."""
+    within, ms = given or (1, 60000)
+    if chance.random() < (0.94 if given is None else 0.8):
+        return given
+    return chance.choice((None, (within, ms + 1000), (within, max(0, ms - 1000)), (within, 0), (within + 1, ms)))
+
+
 def case_of(seed, number, files):
-    """A file, changed or not, and the steps that are asked for."""
+    """A file, changed or not, with the time that is put in, and the steps that are asked for."""
     chance = random.Random(f"{seed} {number}")
     file = chance.choice(files)
+    file = file._replace(time=other_time(chance, file.time))
     steps, lines, last = file.steps, file.proof.split(b"\n")[:-1], b"\n"
     way = chance.random()
     if way > 0.96:
@@ -218,8 +240,9 @@ def made_case(seed, number, files):
     return file._replace(design=text), file.steps, b"\n".join(lines) + b"\n"
 
 
-def said_by(program, steps, folder):
-    words = [program, "check", "--steps", str(steps), folder / "design", folder / "proof"]
+def said_by(program, steps, in_time, folder):
+    options = ["--within", str(in_time[0]), "--max-ms", str(in_time[1])] if in_time else []
+    words = [program, "check", *options, "--steps", str(steps), folder / "design", folder / "proof"]
     return subprocess.run(words, stdout=subprocess.PIPE).stdout.decode().strip()
 
 
@@ -242,7 +265,7 @@ def main():
     with tempfile.TemporaryDirectory() as folder:
         folder = pathlib.Path(folder)
         if asked.made:
-            files = [File(f"{path.stem} {steps}", of_version(path.read_bytes(), asked.version), steps, b"")
+            files = [File(f"{path.stem} {steps}", of_version(path.read_bytes(), asked.version), steps, b"", None)
                      for path, steps in asked_for()]
         else:
             files = list(stored(asked.program, folder, asked.version))
@@ -258,13 +281,13 @@ def main():
             (folder / "design").write_bytes(file.design)
             (folder / "proof").write_bytes(proof)
             begin = time.monotonic()
-            theirs = said_by(asked.program, steps, folder)
+            theirs = said_by(asked.program, steps, file.time, folder)
             middle = time.monotonic()
-            ours = check.judge(design_of(file, designs), steps, proof)
+            ours = check.judge_in_time(design_of(file, designs), file.time, steps, proof)
             own, others = own + time.monotonic() - middle, others + middle - begin
             if ours != theirs:
                 differ += 1
-                print(f"case {number}, {file.name}, steps {steps}: rcv {theirs!r}, check.py {ours!r}")
+                print(f"case {number}, {file.name}, steps {steps}, time {file.time}: rcv {theirs!r}, check.py {ours!r}")
                 if asked.keep:
                     place = asked.keep / str(number)
                     place.mkdir(parents=True, exist_ok=True)

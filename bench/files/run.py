@@ -45,8 +45,8 @@ YES = b"yes steps 2\n"
 INFEASIBLE = b"infeasible steps 2\n"
 USAGE = (
     b"usage: rcv simulate DESIGN PLAN; rcv routes DESIGN; rcv verify [--normal] --steps N --conflicts C --ticks T "
-    b"DESIGN PROOF; "
-    b"rcv check --steps N DESIGN PROOF; rcv trial SEED SIZE\n"
+    b"DESIGN PROOF; rcv tightest --steps N --conflicts C --ticks T --within W DESIGN PROOF; "
+    b"rcv check [--within W --max-ms X] --steps N DESIGN PROOF; rcv trial SEED SIZE\n"
 )
 
 SIMULATE = ["simulate", "halt.toml", "plan.json"]
