@@ -8,3 +8,4 @@ pub mod Simulations
 pub mod Verdicts
 pub mod Replies
 pub mod Prints
+pub mod Uses

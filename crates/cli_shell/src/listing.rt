@@ -1,11 +1,11 @@
 //! The routes of a design, listed.
 
-ghost use Rattle.std.specs.Prelude.{◌≡◌, ◌≤◌, ◌++◌, [], ◌∷◌, true, IfOk, OnOk, Some, ℕ, List};
+ghost use Rattle.std.specs.Prelude.{◌≡◌, ◌++◌, [], ◌∷◌, true, IfOk, OnOk, Some, ℕ, List};
 ghost use Rattle.std.specs.List.{flat_map};
 ghost use Rattle.rail_outside.specs.Asks.{fetched};
 ghost use Rattle.rail_outside.specs.Files.{Files};
-ghost use Rattle.rail_outside.specs.Growth.{Rose, GrowsByPrefix};
 ghost use Rattle.rail_outside.specs.Lines.{lines_of};
+ghost use Rattle.cli_shell.specs.Uses.{OnlyFetches};
 ghost use Rattle.cli_shell.specs.Statuses.{is_verdict};
 ghost use Rattle.cli_shell.specs.Answers.{routes_answer, routes_reply};
 ghost use Rattle.cli_shell.specs.Listings.{start_text, finish_text, release_text, hold_text, overlap_text, route_line};
@@ -34,10 +34,8 @@ pub fn routes_reply<S: Shelf>(alloc: Global, shelf: &mut S, design: &str) -> Res
     ensures for_some_files { (design_bytes : List ℕ) × Replies result (routes_reply design_bytes) }
     ensures verdict { IfOk result (λ reply. is_verdict reply.status ≡ true) }
     ensures refuses { RefusesFile result }
-    ensures cause { result ≡ Err Ending.ShelfFault → Rose (S.fault_count shelf.old) (S.fault_count shelf.new) }
-    ensures never_falls { S.fault_count shelf.old ≤ S.fault_count shelf.new }
-    ensures files_stay { S.known_files shelf.new ≡ S.known_files shelf.old }
-    ensures asks { GrowsByPrefix (S.asked shelf.old) (S.asked shelf.new) (fetched design.now ∷ []) }
+    ensures uses { OnlyFetches S.known_files S.asked S.fault_count shelf.old shelf.new
+        (fetched design.now ∷ []) (result ≡ Err Ending.ShelfFault) }
 {
     let bytes = fetch(alloc, shelf, InputFile::Design, design)?;
     let interlocking = admit(alloc, bytes.as_slice())?;

@@ -1,7 +1,7 @@
 //! Replies, printed.
 
-ghost use Rattle.std.specs.Prelude.{◌≡◌, ◌≢◌, ◌≤◌};
-ghost use Rattle.rail_outside.specs.Growth.{Rose};
+ghost use Rattle.std.specs.Prelude.{◌≡◌, ◌≢◌};
+ghost use Rattle.cli_shell.specs.Uses.{Counts};
 ghost use Rattle.cli_shell.specs.Prints.{Prints};
 ghost use Rattle.cli_shell.specs.Replies.{reply_seen};
 
@@ -14,9 +14,8 @@ use rail_outside::{Sink, SinkFault, put_lines};
 pub fn print<O: Sink>(reply: &Reply, out: &mut O) -> Status
     ensures prints { Prints (reply_seen reply.now) result
         (O.written out.old) (O.written out.new) (O.puts out.old) (O.puts out.new) }
-    ensures cause { result ≡ Status.SinkFault → Rose (O.fault_count out.old) (O.fault_count out.new) }
+    ensures counts { Counts O.fault_count out.old out.new (result ≡ Status.SinkFault) }
     ensures no_shelf { result ≢ Status.ShelfFault }
-    ensures never_falls { O.fault_count out.old ≤ O.fault_count out.new }
 {
     match put_lines(reply.lines.as_slice(), out) {
         Ok(()) => reply.status,

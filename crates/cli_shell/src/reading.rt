@@ -3,7 +3,8 @@
 ghost use Rattle.std.specs.Prelude.{◌≡◌, ◌≤◌, [], ◌∷◌, length, IfOk, OnOk, Some, ℕ, List};
 ghost use Rattle.rail_outside.specs.Asks.{fetched};
 ghost use Rattle.rail_outside.specs.Files.{Files};
-ghost use Rattle.rail_outside.specs.Growth.{Rose, grown, GrowsByPrefix};
+ghost use Rattle.rail_outside.specs.Growth.{grown};
+ghost use Rattle.cli_shell.specs.Uses.{OnlyFetches};
 ghost use Rattle.cli_shell.specs.Answers.{within_limit, with_routes, design_or_answer, and_then, design_in, with_within};
 ghost use Rattle.cli_shell.specs.Replies.{ReadsOrEnds, RefusesFile, OnlyRefuses};
 ghost use Rattle.infra_reader.specs.Design.{design_of};
@@ -32,11 +33,9 @@ pub fn fetch<S: Shelf>(
         → ReadsOrEnds (λ v. v.items) result (within_limit file (files name.now)) }
     ensures for_some_bytes { (bytes : List ℕ) × ReadsOrEnds (λ v. v.items) result (within_limit file bytes) }
     ensures refuses { RefusesFile result }
-    ensures cause { result ≡ Err Ending.ShelfFault → Rose (S.fault_count shelf.old) (S.fault_count shelf.new) }
-    ensures never_falls { S.fault_count shelf.old ≤ S.fault_count shelf.new }
-    ensures files_stay { S.known_files shelf.new ≡ S.known_files shelf.old }
+    ensures uses { OnlyFetches S.known_files S.asked S.fault_count shelf.old shelf.new
+        (fetched name.now ∷ []) (result ≡ Err Ending.ShelfFault) }
     ensures asked { OnOk result (S.asked shelf.new ≡ grown (S.asked shelf.old) (fetched name.now ∷ [])) }
-    ensures asks { GrowsByPrefix (S.asked shelf.old) (S.asked shelf.new) (fetched name.now ∷ []) }
 {
     match shelf.fetch(alloc, name, file.limit()) {
         Ok(bytes) => Ok(bytes),

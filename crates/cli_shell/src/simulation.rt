@@ -1,11 +1,11 @@
 //! A plan simulated over a design.
 
-ghost use Rattle.std.specs.Prelude.{◌≡◌, ◌≤◌, ◌↔◌, [], ◌∷◌, true, IfOk, OnOk, Some, ℕ, List};
+ghost use Rattle.std.specs.Prelude.{◌≡◌, ◌↔◌, [], ◌∷◌, true, IfOk, OnOk, Some, ℕ, List};
 ghost use Rattle.rail_outside.specs.Asks.{fetched};
 ghost use Rattle.rail_outside.specs.Files.{Files};
-ghost use Rattle.rail_outside.specs.Growth.{Rose, GrowsByPrefix};
 ghost use Rattle.rail_spec.specs.Feasible.{IsRunnable, IsFeasible};
 ghost use Rattle.rail_spec.specs.Track.{routes_of};
+ghost use Rattle.cli_shell.specs.Uses.{OnlyFetches};
 ghost use Rattle.cli_shell.specs.Statuses.{is_verdict};
 ghost use Rattle.cli_shell.specs.Answers.{plan_in, verdict_status, verdict_reply, planned, simulation_reply};
 ghost use Rattle.cli_shell.specs.Shows.{verdict_at_horizon};
@@ -62,10 +62,8 @@ pub fn simulation_reply<S: Shelf>(
     ensures refuses { RefusesFile result }
     ensures decides { (files : Files) → S.known_files shelf.old ≡ Some files
         → IfOk result (λ reply. Decides (files design.now) (files plan.now) reply.status) }
-    ensures cause { result ≡ Err Ending.ShelfFault → Rose (S.fault_count shelf.old) (S.fault_count shelf.new) }
-    ensures never_falls { S.fault_count shelf.old ≤ S.fault_count shelf.new }
-    ensures files_stay { S.known_files shelf.new ≡ S.known_files shelf.old }
-    ensures asks { GrowsByPrefix (S.asked shelf.old) (S.asked shelf.new) (fetched design.now ∷ fetched plan.now ∷ []) }
+    ensures uses { OnlyFetches S.known_files S.asked S.fault_count shelf.old shelf.new
+        (fetched design.now ∷ fetched plan.now ∷ []) (result ≡ Err Ending.ShelfFault) }
 {
     let design_bytes = fetch(alloc, shelf, InputFile::Design, design)?;
     let interlocking = admit(alloc, design_bytes.as_slice())?;

@@ -1,12 +1,13 @@
 //! The reply to a plan that is wanted.
 
-ghost use Rattle.std.specs.Prelude.{◌≡◌, ◌≢◌, ◌≤◌, [], ◌∷◌, IfOk, OnOk, Some, Err, ℕ, List};
+ghost use Rattle.std.specs.Prelude.{◌≡◌, ◌≢◌, [], ◌∷◌, IfOk, OnOk, Some, Err, ℕ, List};
 ghost use Rattle.rail_outside.specs.Asks.{fetched};
 ghost use Rattle.rail_outside.specs.Files.{Files};
-ghost use Rattle.rail_outside.specs.Growth.{Rose, grown, GrowsByPrefix};
+ghost use Rattle.rail_outside.specs.Growth.{grown};
 ghost use Rattle.rail_outside.specs.Lines.{lines_of};
 ghost use Rattle.rail_spec.specs.Feasible.{IsRunnable};
 ghost use Rattle.rail_spec.specs.Track.{routes_of};
+ghost use Rattle.cli_shell.specs.Uses.{OnlyFetches};
 ghost use Rattle.cli_shell.specs.Replies.{ReadsOrEnds, Replies, RepliesWith};
 ghost use Rattle.cli_shell.specs.Texts.{plan_line};
 ghost use Rattle.design_cli.specs.Answers.{design_in_file, plan_file_answer, plan_given, plan_lines};
@@ -30,11 +31,9 @@ pub(crate) fn interlocking_in<S: Shelf>(
     ensures reads { (files : Files) → S.known_files shelf.old ≡ Some files
         → ReadsOrEnds (λ i. i.design.station) result (design_in_file (files design.now)) }
     ensures for_some_bytes { (bytes : List ℕ) × ReadsOrEnds (λ i. i.design.station) result (design_in_file bytes) }
-    ensures cause { result ≡ Err Ending.ShelfFault → Rose (S.fault_count shelf.old) (S.fault_count shelf.new) }
-    ensures never_falls { S.fault_count shelf.old ≤ S.fault_count shelf.new }
-    ensures files_stay { S.known_files shelf.new ≡ S.known_files shelf.old }
+    ensures uses { OnlyFetches S.known_files S.asked S.fault_count shelf.old shelf.new
+        (fetched design.now ∷ []) (result ≡ Err Ending.ShelfFault) }
     ensures asked { OnOk result (S.asked shelf.new ≡ grown (S.asked shelf.old) (fetched design.now ∷ [])) }
-    ensures asks { GrowsByPrefix (S.asked shelf.old) (S.asked shelf.new) (fetched design.now ∷ []) }
 {
     let bytes = fetch(alloc, shelf, InputFile::Design, design)?;
     admit(alloc, bytes.as_slice())
@@ -52,10 +51,8 @@ pub(crate) fn plan_reply<S: Shelf>(
         → Replies result (plan_file_answer form (files plan.now) interlocking.now.design.station) }
     ensures for_some_bytes { (bytes : List ℕ)
         × Replies result (plan_file_answer form bytes interlocking.now.design.station) }
-    ensures cause { result ≡ Err Ending.ShelfFault → Rose (S.fault_count shelf.old) (S.fault_count shelf.new) }
-    ensures never_falls { S.fault_count shelf.old ≤ S.fault_count shelf.new }
-    ensures files_stay { S.known_files shelf.new ≡ S.known_files shelf.old }
-    ensures asks { GrowsByPrefix (S.asked shelf.old) (S.asked shelf.new) (fetched plan.now ∷ []) }
+    ensures uses { OnlyFetches S.known_files S.asked S.fault_count shelf.old shelf.new
+        (fetched plan.now ∷ []) (result ≡ Err Ending.ShelfFault) }
 {
     let bytes = fetch(alloc, shelf, InputFile::Plan, plan)?;
     plan_text_reply(alloc, interlocking, form, bytes.as_slice())

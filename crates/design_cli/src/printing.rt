@@ -1,8 +1,8 @@
 //! What is printed of a reply.
 
-ghost use Rattle.std.specs.Prelude.{◌≡◌, ◌≢◌, ◌≤◌, [], ◌∷◌, IfOk, Err, true};
-ghost use Rattle.rail_outside.specs.Growth.{Rose};
+ghost use Rattle.std.specs.Prelude.{◌≡◌, ◌≢◌, [], ◌∷◌, IfOk, Err, true};
 ghost use Rattle.rail_outside.specs.Lines.{lines_of};
+ghost use Rattle.cli_shell.specs.Uses.{Counts};
 ghost use Rattle.cli_shell.specs.Answers.{ReplySeen};
 ghost use Rattle.cli_shell.specs.Replies.{Replies, RepliesWith};
 ghost use Rattle.design_cli.specs.Answers.{unread_line};
@@ -28,8 +28,7 @@ fn unread_lines(alloc: Global, name: &str) -> Result<Vec<Vec<u8>>, AllocError>
 fn print_unread<O: Sink>(alloc: Global, name: &str, out: &mut O) -> Status
     ensures prints { PrintsUnread name.now result
         (O.written out.old) (O.written out.new) (O.puts out.old) (O.puts out.new) }
-    ensures cause { result ≡ Status.SinkFault → Rose (O.fault_count out.old) (O.fault_count out.new) }
-    ensures never_falls { O.fault_count out.old ≤ O.fault_count out.new }
+    ensures counts { Counts O.fault_count out.old out.new (result ≡ Status.SinkFault) }
 {
     match unread_lines(alloc, name) {
         Ok(lines) => match put_lines(lines.as_slice(), out) {
@@ -45,9 +44,8 @@ fn print_unread<O: Sink>(alloc: Global, name: &str, out: &mut O) -> Status
 pub(crate) fn print_reply<O: Sink>(reply: Result<Reply, AllocError>, out: &mut O) -> Status
     ensures prints { (a : ReplySeen) → RepliesWith reply a → PrintsAnswer a result
         (O.written out.old) (O.written out.new) (O.puts out.old) (O.puts out.new) }
-    ensures cause { result ≡ Status.SinkFault → Rose (O.fault_count out.old) (O.fault_count out.new) }
+    ensures counts { Counts O.fault_count out.old out.new (result ≡ Status.SinkFault) }
     ensures no_shelf { result ≢ Status.ShelfFault }
-    ensures never_falls { O.fault_count out.old ≤ O.fault_count out.new }
 {
     match reply {
         Ok(reply) => print(&reply, out),
@@ -66,8 +64,7 @@ pub(crate) fn print_for_file<O: Sink>(
         (O.written out.old) (O.written out.new) (O.puts out.old) (O.puts out.new) }
     ensures done { result ≡ Status.Done → is_reply reply ≡ true }
     ensures unread { result ≡ Status.ShelfFault → reply ≡ Err Ending.ShelfFault }
-    ensures cause { result ≡ Status.SinkFault → Rose (O.fault_count out.old) (O.fault_count out.new) }
-    ensures never_falls { O.fault_count out.old ≤ O.fault_count out.new }
+    ensures counts { Counts O.fault_count out.old out.new (result ≡ Status.SinkFault) }
 {
     match reply {
         Ok(reply) => print(&reply, out),

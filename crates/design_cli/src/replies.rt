@@ -5,7 +5,7 @@ ghost use Rattle.rail_base.specs.Admission.{is_admitted};
 ghost use Rattle.rail_base.specs.declared.station.Station.{Station};
 ghost use Rattle.rail_outside.specs.Asks.{fetched};
 ghost use Rattle.rail_outside.specs.Files.{Files};
-ghost use Rattle.rail_outside.specs.Growth.{Rose, GrowsByPrefix};
+ghost use Rattle.cli_shell.specs.Uses.{OnlyFetches};
 ghost use Rattle.cli_shell.specs.Answers.{design_in};
 ghost use Rattle.cli_shell.specs.Replies.{OnReply, Replies, RepliesWith};
 ghost use Rattle.workload.specs.Made.{made};
@@ -82,10 +82,8 @@ pub(crate) fn file_reply<S: Shelf>(
     ensures for_some_bytes { (bytes : List ℕ) × Replies result (file_answer bytes) }
     ensures admitted { (files : Files) → S.known_files shelf.old ≡ Some files → (d : Station)
         → design_in_file (files design.now) ≡ Ok d → OnReply result (λ reply. is_admitted d ≡ true) }
-    ensures cause { result ≡ Err Ending.ShelfFault → Rose (S.fault_count shelf.old) (S.fault_count shelf.new) }
-    ensures never_falls { S.fault_count shelf.old ≤ S.fault_count shelf.new }
-    ensures files_stay { S.known_files shelf.new ≡ S.known_files shelf.old }
-    ensures asks { GrowsByPrefix (S.asked shelf.old) (S.asked shelf.new) (fetched design.now ∷ []) }
+    ensures uses { OnlyFetches S.known_files S.asked S.fault_count shelf.old shelf.new
+        (fetched design.now ∷ []) (result ≡ Err Ending.ShelfFault) }
 {
     let bytes = fetch(alloc, shelf, InputFile::Design, design)?;
     text_reply(alloc, bytes.as_slice())

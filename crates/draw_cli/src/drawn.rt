@@ -1,11 +1,11 @@
 //! The reply to what is wanted.
 
-ghost use Rattle.std.specs.Prelude.{◌≡◌, ◌≢◌, ◌≤◌, [], ◌∷◌, Some, Err, IfOk, true, false};
+ghost use Rattle.std.specs.Prelude.{◌≡◌, ◌≢◌, [], ◌∷◌, Some, Err, IfOk, true, false};
 ghost use Rattle.named_files.specs.Replies.{Makes, RepliesFor, RepliesOf, is_unread};
 ghost use Rattle.rail_outside.specs.Asks.{fetched};
-ghost use Rattle.rail_outside.specs.Growth.{Rose, GrowsByPrefix};
 ghost use Rattle.rail_spec.specs.Feasible.{IsRunnable};
 ghost use Rattle.rail_spec.specs.Track.{routes_of};
+ghost use Rattle.cli_shell.specs.Uses.{OnlyFetches};
 ghost use Rattle.cli_shell.specs.Replies.{OnReply, RepliesWith, reply_seen};
 ghost use Rattle.draw_cli.specs.Answers.{IsAnswerTo, IsRunAnswer, IsRunDrawing, IsTrackAnswer, IsTrackDrawing};
 ghost use Rattle.draw_cli.specs.Answers.{PlanAnswers, RunAnswers, TrackAnswers, asks_to, design_name, plan_name, usage};
@@ -51,10 +51,8 @@ pub(crate) fn reply_to<'a, S: Shelf>(
     ensures replies { let w = Some (wanted_by wanted.entry) in
         RepliesFor (S.known_files shelf.old) (design_name w) (plan_name w) (IsAnswerTo w) result }
     ensures stops { StopsUnread (Some (wanted_by wanted.entry)) result (S.asked shelf.old) (S.asked shelf.new) }
-    ensures cause { is_unread result ≡ true → Rose (S.fault_count shelf.old) (S.fault_count shelf.new) }
-    ensures never_falls { S.fault_count shelf.old ≤ S.fault_count shelf.new }
-    ensures files_stay { S.known_files shelf.new ≡ S.known_files shelf.old }
-    ensures asks { GrowsByPrefix (S.asked shelf.old) (S.asked shelf.new) (asks_to (Some (wanted_by wanted.entry))) }
+    ensures uses { OnlyFetches S.known_files S.asked S.fault_count shelf.old shelf.new
+        (asks_to (Some (wanted_by wanted.entry))) (is_unread result ≡ true) }
 {
     match wanted {
         Wanted::Track { design } => track(alloc, shelf, design),
@@ -112,10 +110,8 @@ fn run_in(alloc: Global, interlocking: &Interlocking, text: &[u8]) -> Result<Rep
 /// The reply for a design, by the name of its file.
 fn track<'a, S: Shelf>(alloc: Global, shelf: &mut S, design: &'a str) -> Result<Reply, Unmade<'a>>
     ensures replies { RepliesOf (S.known_files shelf.old) design.entry.now IsTrackAnswer result }
-    ensures cause { is_unread result ≡ true → Rose (S.fault_count shelf.old) (S.fault_count shelf.new) }
-    ensures never_falls { S.fault_count shelf.old ≤ S.fault_count shelf.new }
-    ensures files_stay { S.known_files shelf.new ≡ S.known_files shelf.old }
-    ensures asks { GrowsByPrefix (S.asked shelf.old) (S.asked shelf.new) (fetched design.entry.now ∷ []) }
+    ensures uses { OnlyFetches S.known_files S.asked S.fault_count shelf.old shelf.new
+        (fetched design.entry.now ∷ []) (is_unread result ≡ true) }
 {
     let bytes = fetch_named(alloc, shelf, InputFile::Design, design)?;
     match track_in(alloc, bytes.as_slice()) {
@@ -133,10 +129,8 @@ fn run_over<'a, S: Shelf>(
 ) -> Result<Reply, Unmade<'a>>
     ensures replies { RepliesOf (S.known_files shelf.old) plan.entry.now
         (λ bytes. RunAnswers bytes interlocking.now.design.station) result }
-    ensures cause { is_unread result ≡ true → Rose (S.fault_count shelf.old) (S.fault_count shelf.new) }
-    ensures never_falls { S.fault_count shelf.old ≤ S.fault_count shelf.new }
-    ensures files_stay { S.known_files shelf.new ≡ S.known_files shelf.old }
-    ensures asks { GrowsByPrefix (S.asked shelf.old) (S.asked shelf.new) (fetched plan.entry.now ∷ []) }
+    ensures uses { OnlyFetches S.known_files S.asked S.fault_count shelf.old shelf.new
+        (fetched plan.entry.now ∷ []) (is_unread result ≡ true) }
 {
     let bytes = fetch_named(alloc, shelf, InputFile::Plan, plan)?;
     match run_in(alloc, interlocking, bytes.as_slice()) {
@@ -156,11 +150,8 @@ fn run<'a, S: Shelf>(
         IsRunAnswer result }
     ensures stops { StopsUnread (Some (run design.entry.now plan.entry.now)) result
         (S.asked shelf.old) (S.asked shelf.new) }
-    ensures cause { is_unread result ≡ true → Rose (S.fault_count shelf.old) (S.fault_count shelf.new) }
-    ensures never_falls { S.fault_count shelf.old ≤ S.fault_count shelf.new }
-    ensures files_stay { S.known_files shelf.new ≡ S.known_files shelf.old }
-    ensures asks { GrowsByPrefix (S.asked shelf.old) (S.asked shelf.new)
-        (fetched design.entry.now ∷ fetched plan.entry.now ∷ []) }
+    ensures uses { OnlyFetches S.known_files S.asked S.fault_count shelf.old shelf.new
+        (fetched design.entry.now ∷ fetched plan.entry.now ∷ []) (is_unread result ≡ true) }
 {
     let bytes = fetch_named(alloc, shelf, InputFile::Design, design)?;
     match admit(alloc, bytes.as_slice()) {

@@ -1,8 +1,9 @@
 //! Files, read.
 
-ghost use Rattle.std.specs.Prelude.{◌≡◌, ◌≤◌, [], ◌∷◌, OnOk, true};
+ghost use Rattle.std.specs.Prelude.{◌≡◌, [], ◌∷◌, OnOk, true};
 ghost use Rattle.rail_outside.specs.Asks.{fetched};
-ghost use Rattle.rail_outside.specs.Growth.{Rose, grown, GrowsByPrefix};
+ghost use Rattle.rail_outside.specs.Growth.{grown};
+ghost use Rattle.cli_shell.specs.Uses.{OnlyFetches};
 ghost use Rattle.named_files.specs.Replies.{Fetches, is_unread};
 
 use crate::unmade::Unmade;
@@ -19,11 +20,9 @@ pub fn fetch_named<'a, S: Shelf>(
     name: &'a str,
 ) -> Result<Vec<u8>, Unmade<'a>>
     ensures fetches { Fetches (S.known_files shelf.old) file name.entry.now result }
-    ensures cause { is_unread result ≡ true → Rose (S.fault_count shelf.old) (S.fault_count shelf.new) }
-    ensures never_falls { S.fault_count shelf.old ≤ S.fault_count shelf.new }
-    ensures files_stay { S.known_files shelf.new ≡ S.known_files shelf.old }
+    ensures uses { OnlyFetches S.known_files S.asked S.fault_count shelf.old shelf.new
+        (fetched name.entry.now ∷ []) (is_unread result ≡ true) }
     ensures asked { OnOk result (S.asked shelf.new ≡ grown (S.asked shelf.old) (fetched name.entry.now ∷ [])) }
-    ensures asks { GrowsByPrefix (S.asked shelf.old) (S.asked shelf.new) (fetched name.entry.now ∷ []) }
 {
     match fetch(alloc, shelf, file, name) {
         Ok(bytes) => Ok(bytes),

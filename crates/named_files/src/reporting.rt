@@ -1,10 +1,10 @@
 //! What is printed.
 
-ghost use Rattle.std.specs.Prelude.{◌≡◌, ◌≤◌, [], ◌∷◌, IfOk, true};
-ghost use Rattle.rail_outside.specs.Growth.{Rose};
+ghost use Rattle.std.specs.Prelude.{◌≡◌, [], ◌∷◌, IfOk, true};
 ghost use Rattle.rail_outside.specs.Lines.{lines_of};
 ghost use Rattle.named_files.specs.Replies.{is_unread};
 ghost use Rattle.named_files.specs.Reports.{PrintsUnread, ReportsOf, unread_line};
+ghost use Rattle.cli_shell.specs.Uses.{Counts};
 
 use crate::unmade::Unmade;
 use cli_shell::{Reply, Status, print};
@@ -27,8 +27,7 @@ fn unread_lines(alloc: Global, name: &str) -> Result<Vec<Vec<u8>>, AllocError>
 fn print_unread<O: Sink>(alloc: Global, name: &str, out: &mut O) -> Status
     ensures prints { PrintsUnread name.now result
         (O.written out.old) (O.written out.new) (O.puts out.old) (O.puts out.new) }
-    ensures cause { result ≡ Status.SinkFault → Rose (O.fault_count out.old) (O.fault_count out.new) }
-    ensures never_falls { O.fault_count out.old ≤ O.fault_count out.new }
+    ensures counts { Counts O.fault_count out.old out.new (result ≡ Status.SinkFault) }
 {
     match unread_lines(alloc, name) {
         Ok(lines) => match put_lines(lines.as_slice(), out) {
@@ -46,8 +45,7 @@ pub fn report<O: Sink>(alloc: Global, made: Result<Reply, Unmade<'_>>, out: &mut
     ensures reports { ReportsOf made.entry result
         (O.written out.old) (O.written out.new) (O.puts out.old) (O.puts out.new) }
     ensures unread { result ≡ Status.ShelfFault → is_unread made.entry ≡ true }
-    ensures cause { result ≡ Status.SinkFault → Rose (O.fault_count out.old) (O.fault_count out.new) }
-    ensures never_falls { O.fault_count out.old ≤ O.fault_count out.new }
+    ensures counts { Counts O.fault_count out.old out.new (result ≡ Status.SinkFault) }
 {
     match made {
         Ok(reply) => print(&reply, out),

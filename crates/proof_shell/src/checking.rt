@@ -3,9 +3,9 @@
 ghost use Rattle.std.specs.Prelude.{◌≡◌, ◌≤◌, [], ◌∷◌, true, IfOk, Some, ℕ, List};
 ghost use Rattle.rail_outside.specs.Asks.{fetched};
 ghost use Rattle.rail_outside.specs.Files.{Files};
-ghost use Rattle.rail_outside.specs.Growth.{Rose, GrowsByPrefix};
 ghost use Rattle.clause_spec.specs.declared.question.BaseKind.TheVariants.{Plain};
 ghost use Rattle.plan_encoding.specs.Bases.{IsBaseOf};
+ghost use Rattle.cli_shell.specs.Uses.{OnlyFetches};
 ghost use Rattle.cli_shell.specs.Statuses.{is_verdict};
 ghost use Rattle.proof_judge.specs.Judged.{judged};
 ghost use Rattle.proof_shell.specs.Answers.{check_reply, for_file, reply_for, timed, with_clauses, with_proof};
@@ -115,10 +115,8 @@ pub fn check_reply<S: Shelf>(
         × Replies result (check_reply steps in_time design_bytes proof_bytes) }
     ensures verdict { IfOk result (λ reply. is_verdict reply.status ≡ true) }
     ensures refuses { RefusesFile result }
-    ensures cause { result ≡ Err Ending.ShelfFault → Rose (S.fault_count shelf.old) (S.fault_count shelf.new) }
-    ensures never_falls { S.fault_count shelf.old ≤ S.fault_count shelf.new }
-    ensures files_stay { S.known_files shelf.new ≡ S.known_files shelf.old }
-    ensures asks { GrowsByPrefix (S.asked shelf.old) (S.asked shelf.new) (fetched design.now ∷ fetched proof.now ∷ []) }
+    ensures uses { OnlyFetches S.known_files S.asked S.fault_count shelf.old shelf.new
+        (fetched design.now ∷ fetched proof.now ∷ []) (result ≡ Err Ending.ShelfFault) }
 {
     let design_bytes = fetch(alloc, shelf, InputFile::Design, design)?;
     let interlocking = admit(alloc, design_bytes.as_slice())?;
@@ -161,10 +159,8 @@ fn checked_proof<S: Shelf>(
         × Replies result (with_proof steps.count interlocking.now.design.station bytes) }
     ensures verdict { IfOk result (λ reply. is_verdict reply.status ≡ true) }
     ensures refuses { RefusesFile result }
-    ensures cause { result ≡ Err Ending.ShelfFault → Rose (S.fault_count shelf.old) (S.fault_count shelf.new) }
-    ensures never_falls { S.fault_count shelf.old ≤ S.fault_count shelf.new }
-    ensures files_stay { S.known_files shelf.new ≡ S.known_files shelf.old }
-    ensures asks { GrowsByPrefix (S.asked shelf.old) (S.asked shelf.new) (fetched proof.now ∷ []) }
+    ensures uses { OnlyFetches S.known_files S.asked S.fault_count shelf.old shelf.new
+        (fetched proof.now ∷ []) (result ≡ Err Ending.ShelfFault) }
 {
     let bytes = fetch(alloc, shelf, InputFile::Proof, proof)?;
     let shown = shown_of(alloc, interlocking, steps, bytes.as_slice())?;

@@ -4,7 +4,6 @@ ghost use Rattle.std.specs.Prelude.{◌≡◌, ◌≢◌, ◌≤◌, ◌<◌, []
 ghost use Rattle.clause_spec.specs.declared.question.BaseKind.{BaseKind as Kind};
 ghost use Rattle.rail_outside.specs.Asks.{fetched, stored};
 ghost use Rattle.rail_outside.specs.Files.{Files};
-ghost use Rattle.rail_outside.specs.Growth.{Rose, GrowsByPrefix};
 ghost use Rattle.rail_base.specs.Admitted.{IsAdmitted};
 ghost use Rattle.rail_base.specs.Stations.{horizon};
 ghost use Rattle.rail_base.specs.declared.station.Station.{Station};
@@ -12,6 +11,7 @@ ghost use Rattle.rail_words.specs.Requests.{tightest};
 ghost use Rattle.verify_loop.specs.declared.least_time.Tightest.{Tightest as Time};
 ghost use Rattle.verify_loop.specs.Lessening.{untimed};
 ghost use Rattle.verify_loop.specs.Tightening.{FitsTightest, IsTightest, TellsTightest, base_for};
+ghost use Rattle.cli_shell.specs.Uses.{Uses};
 ghost use Rattle.cli_shell.specs.Answers.{and_then, design_in, with_within};
 ghost use Rattle.cli_shell.specs.Replies.{RepliesWith, ReadsOrEnds, RefusesFile, OnlyFails, OnlyRefuses, Replies, OnEnd};
 ghost use Rattle.cli_shell.specs.Shows.{verdict_at_horizon};
@@ -60,9 +60,8 @@ pub(crate) fn time_reply<S: Shelf, P: Sink>(
     ensures refuses { RefusesFile result }
     ensures stored { (files : Files) → S.known_files shelf.old ≡ Some files
         → OnEnd result (λ s. TimeLeaves files steps within design.now proof.now s (S.known_files shelf.new)) }
-    ensures cause { result ≡ Err Ending.ShelfFault → Rose (S.fault_count shelf.old) (S.fault_count shelf.new) }
-    ensures never_falls { S.fault_count shelf.old ≤ S.fault_count shelf.new }
-    ensures asks { GrowsByPrefix (S.asked shelf.old) (S.asked shelf.new) (fetched design.now ∷ stored proof.now ∷ []) }
+    ensures uses { Uses S.asked S.fault_count shelf.old shelf.new
+        (fetched design.now ∷ stored proof.now ∷ []) (result ≡ Err Ending.ShelfFault) }
     ensures tells { (files : Files) → S.known_files shelf.old ≡ Some files
         → TellsTime bounds within (files design.now) steps (P.puts progress.old) (P.puts progress.new) }
 {
@@ -183,9 +182,8 @@ fn keep<S: Shelf>(shelf: &mut S, name: &str, found: &Tightest) -> Result<(), End
     ensures stored { (files : Files) → S.known_files shelf.old ≡ Some files
         → KeepsTime result files name.now found.now (S.known_files shelf.new) }
     ensures fails { OnlyFails result }
-    ensures cause { result ≡ Err Ending.ShelfFault → Rose (S.fault_count shelf.old) (S.fault_count shelf.new) }
-    ensures never_falls { S.fault_count shelf.old ≤ S.fault_count shelf.new }
-    ensures asks { GrowsByPrefix (S.asked shelf.old) (S.asked shelf.new) (stored name.now ∷ []) }
+    ensures uses { Uses S.asked S.fault_count shelf.old shelf.new
+        (stored name.now ∷ []) (result ≡ Err Ending.ShelfFault) }
 {
     match found {
         Tightest::Least { log: Some(log), .. } => store(shelf, name, log.as_slice()),
@@ -217,9 +215,8 @@ fn settle<S: Shelf>(
         → design_in (files name) ≡ Ok d → IsAdmitted d → within ≤ length d.withins
         → ((bounds : Bool) × IsTightest (base_for bounds within) (untimed d within) within steps.count budgets found.now)
         → OnEnd result (λ s. TimeLeaves files steps.count within name proof.now s (S.known_files shelf.new)) }
-    ensures cause { result ≡ Err Ending.ShelfFault → Rose (S.fault_count shelf.old) (S.fault_count shelf.new) }
-    ensures never_falls { S.fault_count shelf.old ≤ S.fault_count shelf.new }
-    ensures asks { GrowsByPrefix (S.asked shelf.old) (S.asked shelf.new) (stored proof.now ∷ []) }
+    ensures uses { Uses S.asked S.fault_count shelf.old shelf.new
+        (stored proof.now ∷ []) (result ≡ Err Ending.ShelfFault) }
 {
     let reply = make_reply(alloc, steps.count, within, budgets, found)?;
     keep(shelf, proof, found)?;
@@ -250,9 +247,8 @@ fn timed_in<S: Shelf, P: Sink>(
     ensures stored { (files : Files) (name : List ℕ) → S.known_files shelf.old ≡ Some files
         → design_in (files name) ≡ Ok interlocking.design.station
         → OnEnd result (λ s. TimeLeaves files steps.count within name proof.now s (S.known_files shelf.new)) }
-    ensures cause { result ≡ Err Ending.ShelfFault → Rose (S.fault_count shelf.old) (S.fault_count shelf.new) }
-    ensures never_falls { S.fault_count shelf.old ≤ S.fault_count shelf.new }
-    ensures asks { GrowsByPrefix (S.asked shelf.old) (S.asked shelf.new) (stored proof.now ∷ []) }
+    ensures uses { Uses S.asked S.fault_count shelf.old shelf.new
+        (stored proof.now ∷ []) (result ≡ Err Ending.ShelfFault) }
     ensures tells { let d = interlocking.design.station in
         TellsTightest (base_for bounds within) (untimed d within) within steps.count
         (P.puts progress.old) (P.puts progress.new) }

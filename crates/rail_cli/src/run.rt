@@ -11,6 +11,7 @@ ghost use Rattle.rail_spelling.specs.Lines.{Word};
 ghost use Rattle.rail_words.specs.Laws.{AsksForNothing};
 ghost use Rattle.rail_words.specs.Words.{texts_of, request_seen};
 ghost use Rattle.rail_cli.specs.Ended.{Ended};
+ghost use Rattle.cli_shell.specs.Uses.{Uses};
 ghost use Rattle.cli_shell.specs.Statuses.{is_answered};
 ghost use Rattle.rail_cli.specs.Answers.{answer_of, asks_to, asks_of};
 ghost use Rattle.rail_cli.specs.Checks.{Checks, ReportsInfeasible};
@@ -262,11 +263,10 @@ fn request_reply<S: Shelf, P: Sink>(
     ensures tries { Tries (Some (request_seen request.entry)) result }
     ensures decides { (files : Files) → S.known_files shelf.old ≡ Some files
         → DecidesRequest files (request_seen request.entry) result }
-    ensures cause { result ≡ Err Ending.ShelfFault → Rose (S.fault_count shelf.old) (S.fault_count shelf.new) }
-    ensures never_falls { S.fault_count shelf.old ≤ S.fault_count shelf.new }
+    ensures uses { Uses S.asked S.fault_count shelf.old shelf.new
+        (asks_to (Some (request_seen request.entry))) (result ≡ Err Ending.ShelfFault) }
     ensures stored { OnEnd result
         (λ s. Leaves (Some (request_seen request.entry)) s (S.known_files shelf.old) (S.known_files shelf.new)) }
-    ensures asks { GrowsByPrefix (S.asked shelf.old) (S.asked shelf.new) (asks_to (Some (request_seen request.entry))) }
     ensures tells { (files : Files) → S.known_files shelf.old ≡ Some files
         → Tells files (Some (request_seen request.entry)) (P.puts progress.old) (P.puts progress.new) }
 {
@@ -335,11 +335,10 @@ fn asked_reply<S: Shelf, P: Sink>(
     ensures tries { Tries (Some (request_seen asked.entry.request)) result }
     ensures decides { (files : Files) → S.known_files shelf.old ≡ Some files
         → DecidesRequest files (request_seen asked.entry.request) result }
-    ensures cause { result ≡ Err Ending.ShelfFault → Rose (S.fault_count shelf.old) (S.fault_count shelf.new) }
-    ensures never_falls { S.fault_count shelf.old ≤ S.fault_count shelf.new }
+    ensures uses { Uses S.asked S.fault_count shelf.old shelf.new
+        (asks_to (Some (request_seen asked.entry.request))) (result ≡ Err Ending.ShelfFault) }
     ensures stored { OnEnd result
         (λ s. Leaves (Some (request_seen asked.entry.request)) s (S.known_files shelf.old) (S.known_files shelf.new)) }
-    ensures asks { GrowsByPrefix (S.asked shelf.old) (S.asked shelf.new) (asks_to (Some (request_seen asked.entry.request))) }
     ensures tells { (files : Files) → S.known_files shelf.old ≡ Some files
         → Tells files (Some (request_seen asked.entry.request)) (P.puts progress.old) (P.puts progress.new) }
     ensures quiet { asked.entry.watched ≡ false → progress.new ≡ progress.old }
@@ -365,11 +364,10 @@ fn reply<S: Shelf, P: Sink>(
     ensures done { (files : Files) → S.known_files shelf.old ≡ Some files
         → OnReply result (λ reply. DoneWhereFeasible files (texts_of words.now) reply.status) }
     ensures usage { OnReply result (λ reply. (reply.status ≡ Status.Usage) ↔ (request_of (texts_of words.now) ≡ None)) }
-    ensures cause { result ≡ Err Ending.ShelfFault → Rose (S.fault_count shelf.old) (S.fault_count shelf.new) }
-    ensures never_falls { S.fault_count shelf.old ≤ S.fault_count shelf.new }
+    ensures uses { Uses S.asked S.fault_count shelf.old shelf.new
+        (asks_of (texts_of words.now)) (result ≡ Err Ending.ShelfFault) }
     ensures stored { OnEnd result (λ s.
         Leaves (request_of (texts_of words.now)) s (S.known_files shelf.old) (S.known_files shelf.new)) }
-    ensures asks { GrowsByPrefix (S.asked shelf.old) (S.asked shelf.new) (asks_of (texts_of words.now)) }
     ensures quiet { is_watched (texts_of words.now) ≡ false → progress.new ≡ progress.old }
     ensures tells { (files : Files) → S.known_files shelf.old ≡ Some files
         → Tells files (request_of (texts_of words.now)) (P.puts progress.old) (P.puts progress.new) }

@@ -3,7 +3,6 @@
 ghost use Rattle.std.specs.Prelude.{◌≡◌, ◌≢◌, ◌≤◌, [], ◌∷◌, length, ℕ, List, IfOk, Ok, Some, true};
 ghost use Rattle.rail_outside.specs.Asks.{fetched, stored};
 ghost use Rattle.rail_outside.specs.Files.{Files};
-ghost use Rattle.rail_outside.specs.Growth.{Rose, GrowsByPrefix};
 ghost use Rattle.rail_outside.specs.Lines.{lines_of};
 ghost use Rattle.rail_words.specs.Requests.{verify};
 ghost use Rattle.verify_loop.specs.declared.outcome.Aim.{Aim};
@@ -11,6 +10,7 @@ ghost use Rattle.verify_loop.specs.declared.outcome.Outcome.{Outcome};
 ghost use Rattle.verify_loop.specs.Outcomes.{IsOutcome, Fits};
 ghost use Rattle.verify_loop.specs.Telling.{TellsHowFar};
 ghost use Rattle.rail_base.specs.declared.station.Station.{Station};
+ghost use Rattle.cli_shell.specs.Uses.{Uses};
 ghost use Rattle.cli_shell.specs.Answers.{one_line, design_in};
 ghost use Rattle.rail_cli.specs.Answers.{reply_for_plan, reply_for_outcome, searched_in, aim_of, budgets_of};
 ghost use Rattle.proof_judge.specs.Judged.{names_within};
@@ -71,9 +71,8 @@ pub(crate) fn search_reply<S: Shelf, P: Sink>(
     ensures refuses { RefusesFile result }
     ensures stored { (files : Files) → S.known_files shelf.old ≡ Some files
         → OnEnd result (λ s. SearchLeaves files steps design.now proof.now s (S.known_files shelf.new)) }
-    ensures cause { result ≡ Err Ending.ShelfFault → Rose (S.fault_count shelf.old) (S.fault_count shelf.new) }
-    ensures never_falls { S.fault_count shelf.old ≤ S.fault_count shelf.new }
-    ensures asks { GrowsByPrefix (S.asked shelf.old) (S.asked shelf.new) (fetched design.now ∷ stored proof.now ∷ []) }
+    ensures uses { Uses S.asked S.fault_count shelf.old shelf.new
+        (fetched design.now ∷ stored proof.now ∷ []) (result ≡ Err Ending.ShelfFault) }
     ensures tells { (files : Files) → S.known_files shelf.old ≡ Some files
         → (d : Station) → design_in (files design.now) ≡ Ok d
         → TellsHowFar (aim_of mode) d steps (P.puts progress.old) (P.puts progress.new) }
@@ -212,9 +211,8 @@ pub(crate) fn store<S: Shelf>(shelf: &mut S, name: &str, bytes: &[u8]) -> Result
     ensures stored { (files : Files) → S.known_files shelf.old ≡ Some files
         → StoresFile result files name.now bytes.now (S.known_files shelf.new) }
     ensures fails { OnlyFails result }
-    ensures cause { result ≡ Err Ending.ShelfFault → Rose (S.fault_count shelf.old) (S.fault_count shelf.new) }
-    ensures never_falls { S.fault_count shelf.old ≤ S.fault_count shelf.new }
-    ensures asks { GrowsByPrefix (S.asked shelf.old) (S.asked shelf.new) (stored name.now ∷ []) }
+    ensures uses { Uses S.asked S.fault_count shelf.old shelf.new
+        (stored name.now ∷ []) (result ≡ Err Ending.ShelfFault) }
 {
     match shelf.store(name, bytes) {
         Ok(()) => Ok(()),
@@ -228,9 +226,8 @@ fn keep<S: Shelf>(shelf: &mut S, name: &str, found: &Outcome) -> Result<(), Endi
     ensures stored { (files : Files) → S.known_files shelf.old ≡ Some files
         → KeepsLog result files name.now found.now (S.known_files shelf.new) }
     ensures fails { OnlyFails result }
-    ensures cause { result ≡ Err Ending.ShelfFault → Rose (S.fault_count shelf.old) (S.fault_count shelf.new) }
-    ensures never_falls { S.fault_count shelf.old ≤ S.fault_count shelf.new }
-    ensures asks { GrowsByPrefix (S.asked shelf.old) (S.asked shelf.new) (stored name.now ∷ []) }
+    ensures uses { Uses S.asked S.fault_count shelf.old shelf.new
+        (stored name.now ∷ []) (result ≡ Err Ending.ShelfFault) }
 {
     match found {
         Outcome::Infeasible { log } => store(shelf, name, log.as_slice()),
@@ -259,9 +256,8 @@ fn settle<S: Shelf>(
     ensures stored { (files : Files) (name : List ℕ) → S.known_files shelf.old ≡ Some files
         → design_in (files name) ≡ Ok design.now.station
         → OnEnd result (λ s. SearchLeaves files steps.count name proof.now s (S.known_files shelf.new)) }
-    ensures cause { result ≡ Err Ending.ShelfFault → Rose (S.fault_count shelf.old) (S.fault_count shelf.new) }
-    ensures never_falls { S.fault_count shelf.old ≤ S.fault_count shelf.new }
-    ensures asks { GrowsByPrefix (S.asked shelf.old) (S.asked shelf.new) (stored proof.now ∷ []) }
+    ensures uses { Uses S.asked S.fault_count shelf.old shelf.new
+        (stored proof.now ∷ []) (result ≡ Err Ending.ShelfFault) }
 {
     let reply = make_reply(alloc, design, steps.count, budgets, found)?;
     keep(shelf, proof, found)?;
@@ -290,9 +286,8 @@ fn searched_in<S: Shelf, P: Sink>(
     ensures stored { (files : Files) (name : List ℕ) → S.known_files shelf.old ≡ Some files
         → design_in (files name) ≡ Ok interlocking.now.design.station
         → OnEnd result (λ s. SearchLeaves files steps.count name proof.now s (S.known_files shelf.new)) }
-    ensures cause { result ≡ Err Ending.ShelfFault → Rose (S.fault_count shelf.old) (S.fault_count shelf.new) }
-    ensures never_falls { S.fault_count shelf.old ≤ S.fault_count shelf.new }
-    ensures asks { GrowsByPrefix (S.asked shelf.old) (S.asked shelf.new) (stored proof.now ∷ []) }
+    ensures uses { Uses S.asked S.fault_count shelf.old shelf.new
+        (stored proof.now ∷ []) (result ≡ Err Ending.ShelfFault) }
     ensures tells { TellsHowFar aim interlocking.now.design.station steps.count
         (P.puts progress.old) (P.puts progress.new) }
 {

@@ -1,7 +1,6 @@
 //! The reply to what is wanted.
 
-ghost use Rattle.std.specs.Prelude.{◌≡◌, ◌≤◌, [], ◌∷◌, true, None, Some, IfOk};
-ghost use Rattle.rail_outside.specs.Growth.{Rose, GrowsByPrefix};
+ghost use Rattle.std.specs.Prelude.{◌≡◌, [], ◌∷◌, true, None, Some};
 ghost use Rattle.named_files.specs.Replies.{is_unread};
 ghost use Rattle.rail_words.specs.Requests.{IsInTimeInRange};
 ghost use Rattle.why_words.specs.Wanted.{AreStepsInRange};
@@ -9,6 +8,7 @@ ghost use Rattle.why_words.specs.Words.{wanted_by};
 ghost use Rattle.rail_outside.specs.Asks.{fetched};
 ghost use Rattle.named_files.specs.Replies.{RepliesFor, RepliesOf};
 ghost use Rattle.why_cli.specs.Replies.{IsAnswerOf, IsAnswerTo, IsBothAnswer, IsFileAnswer, asks_to};
+ghost use Rattle.cli_shell.specs.Uses.{OnlyFetches};
 
 use crate::admitting::design_for;
 use crate::designs::design_reply;
@@ -32,10 +32,8 @@ pub(crate) fn reply_to<'a, S: Shelf>(
     requires in_time { IsInTimeInRange wanted.in_time }
     ensures replies { let w = wanted_by wanted.entry in
         RepliesFor (S.known_files shelf.old) (Some w.design) w.file (IsAnswerTo (Some w)) result }
-    ensures cause { is_unread result ≡ true → Rose (S.fault_count shelf.old) (S.fault_count shelf.new) }
-    ensures never_falls { S.fault_count shelf.old ≤ S.fault_count shelf.new }
-    ensures files_stay { S.known_files shelf.new ≡ S.known_files shelf.old }
-    ensures asks { GrowsByPrefix (S.asked shelf.old) (S.asked shelf.new) (asks_to (Some (wanted_by wanted.entry))) }
+    ensures uses { OnlyFetches S.known_files S.asked S.fault_count shelf.old shelf.new
+        (asks_to (Some (wanted_by wanted.entry))) (is_unread result ≡ true) }
 {
     let Wanted {
         steps,
@@ -59,10 +57,8 @@ fn for_design<'a, S: Shelf>(
     requires { AreStepsInRange steps }
     ensures replies { RepliesFor (S.known_files shelf.old) (Some design.entry.now) None
         (IsAnswerOf steps None None) result }
-    ensures cause { is_unread result ≡ true → Rose (S.fault_count shelf.old) (S.fault_count shelf.new) }
-    ensures never_falls { S.fault_count shelf.old ≤ S.fault_count shelf.new }
-    ensures files_stay { S.known_files shelf.new ≡ S.known_files shelf.old }
-    ensures asks { GrowsByPrefix (S.asked shelf.old) (S.asked shelf.new) (fetched design.entry.now ∷ []) }
+    ensures uses { OnlyFetches S.known_files S.asked S.fault_count shelf.old shelf.new
+        (fetched design.entry.now ∷ []) (is_unread result ≡ true) }
 {
     let bytes = fetch_named(alloc, shelf, InputFile::Design, design)?;
     let reply = design_reply(alloc, bytes.as_slice(), steps)?;
@@ -82,11 +78,8 @@ fn for_both<'a, S: Shelf>(
     requires in_time { IsInTimeInRange in_time }
     ensures replies { RepliesFor (S.known_files shelf.old) (Some design.entry.now) (Some name.entry.now)
         (IsBothAnswer steps in_time) result }
-    ensures cause { is_unread result ≡ true → Rose (S.fault_count shelf.old) (S.fault_count shelf.new) }
-    ensures never_falls { S.fault_count shelf.old ≤ S.fault_count shelf.new }
-    ensures files_stay { S.known_files shelf.new ≡ S.known_files shelf.old }
-    ensures asks { GrowsByPrefix (S.asked shelf.old) (S.asked shelf.new)
-        (fetched design.entry.now ∷ fetched name.entry.now ∷ []) }
+    ensures uses { OnlyFetches S.known_files S.asked S.fault_count shelf.old shelf.new
+        (fetched design.entry.now ∷ fetched name.entry.now ∷ []) (is_unread result ≡ true) }
 {
     let bytes = fetch_named(alloc, shelf, InputFile::Design, design)?;
     match design_for(alloc, bytes.as_slice(), steps, in_time) {
@@ -116,10 +109,8 @@ fn for_file<'a, S: Shelf>(
     requires { AreStepsInRange steps }
     ensures replies { RepliesOf (S.known_files shelf.old) name.entry.now
         (IsFileAnswer in_time design_text.now steps interlocking.now.design.station) result }
-    ensures cause { is_unread result ≡ true → Rose (S.fault_count shelf.old) (S.fault_count shelf.new) }
-    ensures never_falls { S.fault_count shelf.old ≤ S.fault_count shelf.new }
-    ensures files_stay { S.known_files shelf.new ≡ S.known_files shelf.old }
-    ensures asks { GrowsByPrefix (S.asked shelf.old) (S.asked shelf.new) (fetched name.entry.now ∷ []) }
+    ensures uses { OnlyFetches S.known_files S.asked S.fault_count shelf.old shelf.new
+        (fetched name.entry.now ∷ []) (is_unread result ≡ true) }
 {
     let bytes = fetch_named(alloc, shelf, InputFile::Proof, name)?;
     if is_plan(bytes.as_slice()) {

@@ -6,19 +6,19 @@ use Rattle.interlocking.specs.declared.railway.Interlocking.{Interlocking}
 use Rattle.cli_shell.proofs.AnyShelf.{no_design, not_read, no_plan, all_read}
 use Rattle.cli_shell.proofs.simulation.simulation_reply.Goals as goal
 
-pub returns-in_err-design_bytes-clause-asks : goal.returns-in_err-design_bytes-clause-asks
-returns-in_err-design_bytes-clause-asks g c = first_of_two _ _ _ _ c.fetch.ensures.asks
+pub returns-in_err-design_bytes-clause-uses : goal.returns-in_err-design_bytes-clause-uses
+returns-in_err-design_bytes-clause-uses g c = record { cause = (search rules); never_falls = (search rules); files_stay = (search rules); asks = first_of_two _ _ _ _ c.fetch.ensures.uses.asks }
 
-pub returns-in_err-plan_bytes-clause-asks : goal.returns-in_err-plan_bytes-clause-asks
-returns-in_err-plan_bytes-clause-asks g c = second_of_two _ _ _ _ _ c.in_ok-design_bytes.ensures.asked c.fetch-2.ensures.asks
+pub returns-in_err-plan_bytes-clause-uses : goal.returns-in_err-plan_bytes-clause-uses
+returns-in_err-plan_bytes-clause-uses g c = record { cause = (search rules); never_falls = (search rules); files_stay = (search rules); asks = second_of_two _ _ _ _ _ c.in_ok-design_bytes.ensures.asked c.fetch-2.ensures.uses.asks }
 
-pub returns-clause-asks : goal.returns-clause-asks
-returns-clause-asks g c = second_of_two _ _ _ _ _ c.in_ok-design_bytes.ensures.asked c.fetch-2.ensures.asks
+pub returns-clause-uses : goal.returns-clause-uses
+returns-clause-uses g c = record { cause = (search rules); never_falls = (search rules); files_stay = (search rules); asks = second_of_two _ _ _ _ _ c.in_ok-design_bytes.ensures.asked c.fetch-2.ensures.uses.asks }
 
 pub returns-clause-decides : goal.returns-clause-decides
 returns-clause-decides g c = λ files reply_for.
     decides_so _ _ c.in_ok-design_bytes.design_bytes.items c.in_ok-plan_bytes.plan_bytes.items c.in_ok-interlocking.interlocking.design.station c.plan_reply.result
-    (c.in_ok-design_bytes.ensures.reads files reply_for) (c.in_ok-plan_bytes.ensures.reads files (c.fetch.ensures.files_stay ∙ reply_for))
+    (c.in_ok-design_bytes.ensures.reads files reply_for) (c.in_ok-plan_bytes.ensures.reads files (c.fetch.ensures.uses.files_stay ∙ reply_for))
     (ap design_in (sym c.as_slice.ensures.value) ∙ c.in_ok-interlocking.ensures.reads)
     (rw c.as_slice-2.ensures.value at c.plan_reply.ensures.decides)
 

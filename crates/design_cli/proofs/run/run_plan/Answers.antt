@@ -13,7 +13,7 @@ returns-in-Ok-clause-answer g c = λ files known.
     reports_among c.print_for_file.result _ _ _ _ (plan_answer c.args.form (files design) (files plan)) (plan ∷ []) (design ∷ plan ∷ []) (second_name design plan)
     (c.print_for_file.ensures.prints (plan_answer c.args.form (files design) (files plan))
     (plan_design_read c.plan_reply-reply.result c.args.form c.in-Ok.interlocking.design.station (files design) (files plan) (c.in-Ok.ensures.reads files known)
-    (c.plan_reply-reply.ensures.replies files (c.interlocking_in.ensures.files_stay ∙ known))))
+    (c.plan_reply-reply.ensures.replies files (c.interlocking_in.ensures.uses.files_stay ∙ known))))
 
 pub returns-in-Ok-clause-for_some_files : goal.returns-in-Ok-clause-for_some_files
 returns-in-Ok-clause-for_some_files g c =
@@ -33,7 +33,7 @@ pub returns-in-Ok-clause-admitted : goal.returns-in-Ok-clause-admitted
 returns-in-Ok-clause-admitted g c = λ files known d is done. one_of_file (files c.args.design.now) c.in-Ok.interlocking.design.station d c.in-Ok.interlocking.design.admitted (c.in-Ok.ensures.reads files known) is
 
 pub returns-in-Ok-clause-asked : goal.returns-in-Ok-clause-asked
-returns-in-Ok-clause-asked g c = second_of_two _ _ _ _ _ c.in-Ok.ensures.asked c.plan_reply-reply.ensures.asks
+returns-in-Ok-clause-asked g c = second_of_two _ _ _ _ _ c.in-Ok.ensures.asked c.plan_reply-reply.ensures.uses.asks
 
 pub returns-in-Err-clause-answer : goal.returns-in-Err-clause-answer
 returns-in-Err-clause-answer g c = λ files known.
@@ -61,4 +61,4 @@ returns-in-Err-clause-admitted g c = λ files known d is done.
     on_reply (Err c.in-Err.ending) (is_admitted d ≡ true) (gives_none (Err c.in-Err.ending) station_of c.in-Err.ending (design_in_file (files c.args.design.now)) d (is_admitted d ≡ true) refl (c.in-Err.ensures.reads files known) is) (c.print_for_file-in-Err.ensures.done done)
 
 pub returns-in-Err-clause-asked : goal.returns-in-Err-clause-asked
-returns-in-Err-clause-asked g c = first_of_two _ _ _ _ c.interlocking_in.ensures.asks
+returns-in-Err-clause-asked g c = first_of_two _ _ _ _ c.interlocking_in.ensures.uses.asks

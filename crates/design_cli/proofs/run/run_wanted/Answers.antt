@@ -24,7 +24,7 @@ returns-in-InFile-clause-admitted g c = λ files known d is done.
     on_reply c.file_reply-reply.result (is_admitted d ≡ true) (c.file_reply-reply.ensures.admitted files known d (used_design files (Some (wanted_by c.args.wanted)) (Some (in_file c.in-InFile.design.now)) d (search rules) is)) (c.print_for_file.ensures.done done)
 
 pub returns-in-InFile-clause-asked : goal.returns-in-InFile-clause-asked
-returns-in-InFile-clause-asked g c = asked_grows (Some (wanted_by c.args.wanted)) (Some (in_file c.in-InFile.design.now)) _ _ (search rules) c.file_reply-reply.ensures.asks
+returns-in-InFile-clause-asked g c = asked_grows (Some (wanted_by c.args.wanted)) (Some (in_file c.in-InFile.design.now)) _ _ (search rules) c.file_reply-reply.ensures.uses.asks
 
 pub returns-in-OfTrial-clause-answer : goal.returns-in-OfTrial-clause-answer
 returns-in-OfTrial-clause-answer g c = λ files known.

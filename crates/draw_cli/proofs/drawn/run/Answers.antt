@@ -17,10 +17,10 @@ returns-in_err-bytes-clause-replies g c =
 
 pub returns-in_err-bytes-clause-stops : goal.returns-in_err-bytes-clause-stops
 returns-in_err-bytes-clause-stops g c =
-    design_stops c.from_residual.result _ _ _ file.Design c.args.design.now c.args.plan.now c.in_err-bytes.field-0.0 (search rules) c.in_err-bytes.ensures.fetches c.fetch_named.ensures.asks
+    design_stops c.from_residual.result _ _ _ file.Design c.args.design.now c.args.plan.now c.in_err-bytes.field-0.0 (search rules) c.in_err-bytes.ensures.fetches c.fetch_named.ensures.uses.asks
 
-pub returns-in_err-bytes-clause-asks : goal.returns-in_err-bytes-clause-asks
-returns-in_err-bytes-clause-asks g c = first_of_two _ _ _ _ c.fetch_named.ensures.asks
+pub returns-in_err-bytes-clause-uses : goal.returns-in_err-bytes-clause-uses
+returns-in_err-bytes-clause-uses g c = record { cause = (search rules); never_falls = (search rules); files_stay = (search rules); asks = first_of_two _ _ _ _ c.fetch_named.ensures.uses.asks }
 
 pub returns-in-Ok-clause-replies : goal.returns-in-Ok-clause-replies
 returns-in-Ok-clause-replies g c =
@@ -29,14 +29,14 @@ returns-in-Ok-clause-replies g c =
     let r = c.run_over.result in
     both_made _ file.Design c.args.design.now r RunTextAnswers plan c.in_ok-bytes.bytes c.in_ok-bytes.ensures.fetches
     (of_read _ plan r RunAnswers (design_in c.in_ok-bytes.bytes.items) d (ap design_in (sym c.as_slice.ensures.value) ∙ c.in-Ok.ensures.reads)
-    (subst (λ (known : Option Files). RepliesOf known plan (λ bytes. RunAnswers bytes d) r) c.in_ok-bytes.ensures.files_stay c.run_over.ensures.replies))
+    (subst (λ (known : Option Files). RepliesOf known plan (λ bytes. RunAnswers bytes d) r) c.in_ok-bytes.ensures.uses.files_stay c.run_over.ensures.replies))
 
 pub returns-in-Ok-clause-stops : goal.returns-in-Ok-clause-stops
 returns-in-Ok-clause-stops g c =
-    plan_stops c.run_over.result _ _ _ (λ (bytes : List ℕ). RunAnswers bytes c.in-Ok.interlocking.design.station) c.args.design.now c.args.plan.now _ c.run_over.ensures.replies c.in_ok-bytes.ensures.asked c.run_over.ensures.asks
+    plan_stops c.run_over.result _ _ _ (λ (bytes : List ℕ). RunAnswers bytes c.in-Ok.interlocking.design.station) c.args.design.now c.args.plan.now _ c.run_over.ensures.replies c.in_ok-bytes.ensures.asked c.run_over.ensures.uses.asks
 
-pub returns-in-Ok-clause-asks : goal.returns-in-Ok-clause-asks
-returns-in-Ok-clause-asks g c = second_of_two _ _ _ _ _ c.in_ok-bytes.ensures.asked c.run_over.ensures.asks
+pub returns-in-Ok-clause-uses : goal.returns-in-Ok-clause-uses
+returns-in-Ok-clause-uses g c = record { cause = (search rules); never_falls = (search rules); files_stay = (search rules); asks = second_of_two _ _ _ _ _ c.in_ok-bytes.ensures.asked c.run_over.ensures.uses.asks }
 
 pub returns-clause-replies : goal.returns-clause-replies
 returns-clause-replies g c =

@@ -1,4 +1,4 @@
-use Rattle.std.proofs.Common.{[], Ok, Err, refl, ap}
+use Rattle.std.proofs.Common.{rules, [], Ok, Err, refl, ap}
 use Rattle.named_files.specs.declared.unmade.Unmade.TheVariants.{Refused, Memory, Unread}
 use Rattle.cli_shell.specs.Answers.{within_limit}
 use Rattle.named_files.proofs.FilesRead.{read_refused, some_fetch}
@@ -24,5 +24,5 @@ returns-in-Err-Memory-clause-fetches g c = some_fetch _ c.args.file c.args.name.
 pub returns-in-Err-ShelfFault-clause-fetches : goal.returns-in-Err-ShelfFault-clause-fetches
 returns-in-Err-ShelfFault-clause-fetches g c = some_fetch _ c.args.file c.args.name.now (Err (Unread c.args.name)) (λ files told. refl) ([], refl)
 
-pub returns-in-Err-ShelfFault-clause-cause : goal.returns-in-Err-ShelfFault-clause-cause
-returns-in-Err-ShelfFault-clause-cause g c = λ unread. c.in-Err-ShelfFault.ensures.cause (ap Err c.in-Err-ShelfFault.field-0-is)
+pub returns-in-Err-ShelfFault-clause-uses : goal.returns-in-Err-ShelfFault-clause-uses
+returns-in-Err-ShelfFault-clause-uses g c = record { cause = λ unread. c.in-Err-ShelfFault.ensures.uses.cause (ap Err c.in-Err-ShelfFault.field-0-is); never_falls = (search rules); files_stay = (search rules); asks = (search rules) }

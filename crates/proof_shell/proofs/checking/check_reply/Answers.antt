@@ -5,11 +5,11 @@ use Rattle.cli_shell.specs.Answers.{design_in}
 use Rattle.proof_shell.proofs.AnyShelf.{unchecked, unchecked_design, untimed, all_checked}
 use Rattle.proof_shell.proofs.checking.check_reply.Goals as goal
 
-pub returns-in_err-design_bytes-clause-asks : goal.returns-in_err-design_bytes-clause-asks
-returns-in_err-design_bytes-clause-asks g c = first_of_two _ _ _ _ c.fetch.ensures.asks
+pub returns-in_err-design_bytes-clause-uses : goal.returns-in_err-design_bytes-clause-uses
+returns-in_err-design_bytes-clause-uses g c = record { cause = (search rules); never_falls = (search rules); files_stay = (search rules); asks = first_of_two _ _ _ _ c.fetch.ensures.uses.asks }
 
-pub returns-clause-asks : goal.returns-clause-asks
-returns-clause-asks g c = second_of_two _ _ _ _ _ c.in_ok-design_bytes.ensures.asked c.checked_proof.ensures.asks
+pub returns-clause-uses : goal.returns-clause-uses
+returns-clause-uses g c = record { cause = (search rules); never_falls = (search rules); files_stay = (search rules); asks = second_of_two _ _ _ _ _ c.in_ok-design_bytes.ensures.asked c.checked_proof.ensures.uses.asks }
 
 pub returns-in_err-design_bytes-clause-for_some_files : goal.returns-in_err-design_bytes-clause-for_some_files
 returns-in_err-design_bytes-clause-for_some_files g c = unchecked c.from_residual.result c.args.steps c.args.in_time c.in_err-design_bytes.field-0.0 (search rules) c.in_err-design_bytes.ensures.for_some_bytes

@@ -16,3 +16,6 @@ returns-in_err-keep-clause-stored g c = λ files name d reply_for parsed good th
 pub returns-clause-stored : goal.returns-clause-stored
 returns-clause-stored g c = λ files name d reply_for parsed good there says.
     settled_times files c.args.steps.count c.args.within name c.args.proof.now _ says.0 d c.requires.from_1 there good c.args.steps.at_most_256 parsed c.args.budgets c.requires.room c.args.found.now c.in_ok-reply.reply says.1 (c.in_ok-keep.ensures.stored files reply_for) c.in_ok-reply.ensures
+
+pub returns-in_err-reply-clause-uses : goal.returns-in_err-reply-clause-uses
+returns-in_err-reply-clause-uses g c = record { cause = (search rules); never_falls = (search rules); asks = (search rules) }

@@ -16,8 +16,8 @@ returns-in_err-bytes-clause-replies g c = λ files reply_for. time_unfetched c.f
 pub returns-in_err-bytes-clause-for_some_files : goal.returns-in_err-bytes-clause-for_some_files
 returns-in_err-bytes-clause-for_some_files g c = time_unfetched_some c.from_residual.result c.args.steps c.args.bounds c.args.within c.args.budgets c.args.design.now c.args.proof.now c.in_err-bytes.field-0.0 (search rules) c.in_err-bytes.ensures.for_some_bytes
 
-pub returns-in_err-bytes-clause-asks : goal.returns-in_err-bytes-clause-asks
-returns-in_err-bytes-clause-asks g c = first_of_two _ _ _ _ c.fetch.ensures.asks
+pub returns-in_err-bytes-clause-uses : goal.returns-in_err-bytes-clause-uses
+returns-in_err-bytes-clause-uses g c = record { cause = (search rules); never_falls = (search rules); asks = first_of_two _ _ _ _ c.fetch.ensures.uses.asks }
 
 pub returns-in_err-interlocking-clause-replies : goal.returns-in_err-interlocking-clause-replies
 returns-in_err-interlocking-clause-replies g c = λ files reply_for.
@@ -37,10 +37,10 @@ returns-then-within-len-clause-for_some_files g c =
 
 pub returns-then-within-len-clause-stored : goal.returns-then-within-len-clause-stored
 returns-then-within-len-clause-stored g c = λ files reply_for.
-    c.timed_in.ensures.stored files c.args.design.now (c.fetch.ensures.files_stay ∙ reply_for) (time_spelled c.timed_in.result c.args.steps c.args.bounds c.args.within c.args.budgets c.args.design.now c.args.proof.now c.in_ok-bytes.bytes.items files c.in_ok-interlocking.interlocking.design.station (c.in_ok-bytes.ensures.reads files reply_for) (ap design_in (sym c.as_slice.ensures.value) ∙ c.in_ok-interlocking.ensures.reads))
+    c.timed_in.ensures.stored files c.args.design.now (c.fetch.ensures.uses.files_stay ∙ reply_for) (time_spelled c.timed_in.result c.args.steps c.args.bounds c.args.within c.args.budgets c.args.design.now c.args.proof.now c.in_ok-bytes.bytes.items files c.in_ok-interlocking.interlocking.design.station (c.in_ok-bytes.ensures.reads files reply_for) (ap design_in (sym c.as_slice.ensures.value) ∙ c.in_ok-interlocking.ensures.reads))
 
-pub returns-then-within-len-clause-asks : goal.returns-then-within-len-clause-asks
-returns-then-within-len-clause-asks g c = second_of_two _ _ _ _ _ c.in_ok-bytes.ensures.asked c.timed_in.ensures.asks
+pub returns-then-within-len-clause-uses : goal.returns-then-within-len-clause-uses
+returns-then-within-len-clause-uses g c = record { cause = (search rules); never_falls = (search rules); asks = second_of_two _ _ _ _ _ c.in_ok-bytes.ensures.asked c.timed_in.ensures.uses.asks }
 
 pub returns-then-within-len-clause-tells : goal.returns-then-within-len-clause-tells
 returns-then-within-len-clause-tells g c = λ files reply_for.

@@ -20,7 +20,7 @@ pub returns-in-Simulate-clause-decides : goal.returns-in-Simulate-clause-decides
 returns-in-Simulate-clause-decides g c = λ files reply_for. decides_named files (request_seen c.args.request) _ _ c.simulation_reply.result (c.simulation_reply.ensures.decides files reply_for) (search rules)
 
 pub returns-in-Simulate-clause-stored : goal.returns-in-Simulate-clause-stored
-returns-in-Simulate-clause-stored g c = simulate_leaves c.simulation_reply.result _ _ (request_seen c.args.request) c.in-Simulate.design.now c.in-Simulate.plan.now (search rules) c.simulation_reply.ensures.files_stay
+returns-in-Simulate-clause-stored g c = simulate_leaves c.simulation_reply.result _ _ (request_seen c.args.request) c.in-Simulate.design.now c.in-Simulate.plan.now (search rules) c.simulation_reply.ensures.uses.files_stay
 
 pub returns-in-Routes-clause-replies : goal.returns-in-Routes-clause-replies
 returns-in-Routes-clause-replies g c = λ files reply_for. routes_so c.routes_reply.result files (request_seen c.args.request) c.in-Routes.design.now (search rules) (c.routes_reply.ensures.replies files reply_for)
@@ -29,7 +29,7 @@ pub returns-in-Routes-clause-decides : goal.returns-in-Routes-clause-decides
 returns-in-Routes-clause-decides g c = λ files reply_for. decides_routes files (request_seen c.args.request) c.in-Routes.design.now c.routes_reply.result (search rules)
 
 pub returns-in-Routes-clause-stored : goal.returns-in-Routes-clause-stored
-returns-in-Routes-clause-stored g c = routes_leaves c.routes_reply.result _ _ (request_seen c.args.request) c.in-Routes.design.now (search rules) c.routes_reply.ensures.files_stay
+returns-in-Routes-clause-stored g c = routes_leaves c.routes_reply.result _ _ (request_seen c.args.request) c.in-Routes.design.now (search rules) c.routes_reply.ensures.uses.files_stay
 
 pub returns-in-Verify-clause-replies : goal.returns-in-Verify-clause-replies
 returns-in-Verify-clause-replies g c = λ files reply_for.
@@ -53,7 +53,7 @@ pub returns-in-Check-clause-decides : goal.returns-in-Check-clause-decides
 returns-in-Check-clause-decides g c = λ files reply_for. decides_check files (request_seen c.args.request) c.in-Check.steps c.in-Check.in_time c.in-Check.design.now c.in-Check.proof.now c.check_reply.result (search rules)
 
 pub returns-in-Check-clause-stored : goal.returns-in-Check-clause-stored
-returns-in-Check-clause-stored g c = check_leaves c.check_reply.result _ _ (request_seen c.args.request) c.in-Check.steps c.in-Check.in_time c.in-Check.design.now c.in-Check.proof.now (search rules) c.check_reply.ensures.files_stay
+returns-in-Check-clause-stored g c = check_leaves c.check_reply.result _ _ (request_seen c.args.request) c.in-Check.steps c.in-Check.in_time c.in-Check.design.now c.in-Check.proof.now (search rules) c.check_reply.ensures.uses.files_stay
 
 pub check_reply-requires : goal.check_reply-requires
 check_reply-requires g c =
@@ -84,8 +84,8 @@ returns-in-Trial-clause-decides g c = λ files reply_for. decides_trial files (r
 pub returns-in-Trial-clause-stored : goal.returns-in-Trial-clause-stored
 returns-in-Trial-clause-stored g c = trial_leaves c.trial_reply.result _ _ (request_seen c.args.request) c.in-Trial.seed c.in-Trial.size (search rules) (search rules)
 
-pub returns-in-Trial-clause-asks : goal.returns-in-Trial-clause-asks
-returns-in-Trial-clause-asks g c = none_of _ _
+pub returns-in-Trial-clause-uses : goal.returns-in-Trial-clause-uses
+returns-in-Trial-clause-uses g c = record { cause = (search rules); never_falls = (search rules); asks = none_of _ _ }
 
 pub trial_reply-requires : goal.trial_reply-requires
 trial_reply-requires g c =

@@ -18,10 +18,10 @@ returns-in_err-bytes-clause-replies g c = λ files reply_for.
 
 pub returns-in_err-bytes-clause-stored : goal.returns-in_err-bytes-clause-stored
 returns-in_err-bytes-clause-stored g c = λ files reply_for.
-    early_leaves files c.args.steps c.args.design.now c.args.proof.now _ c.from_residual.result c.in_err-bytes.field-0.0 (search rules) (search rules) (c.fetch.ensures.files_stay ∙ reply_for)
+    early_leaves files c.args.steps c.args.design.now c.args.proof.now _ c.from_residual.result c.in_err-bytes.field-0.0 (search rules) (search rules) (c.fetch.ensures.uses.files_stay ∙ reply_for)
 
-pub returns-in_err-bytes-clause-asks : goal.returns-in_err-bytes-clause-asks
-returns-in_err-bytes-clause-asks g c = first_of_two _ _ _ _ c.fetch.ensures.asks
+pub returns-in_err-bytes-clause-uses : goal.returns-in_err-bytes-clause-uses
+returns-in_err-bytes-clause-uses g c = record { cause = (search rules); never_falls = (search rules); asks = first_of_two _ _ _ _ c.fetch.ensures.uses.asks }
 
 pub returns-in_err-interlocking-clause-replies : goal.returns-in_err-interlocking-clause-replies
 returns-in_err-interlocking-clause-replies g c = λ files reply_for.
@@ -34,11 +34,11 @@ returns-clause-replies g c = λ files reply_for.
 
 pub returns-clause-stored : goal.returns-clause-stored
 returns-clause-stored g c = λ files reply_for.
-    c.searched_in.ensures.stored files c.args.design.now (c.fetch.ensures.files_stay ∙ reply_for)
+    c.searched_in.ensures.stored files c.args.design.now (c.fetch.ensures.uses.files_stay ∙ reply_for)
     (spelled_so files c.args.steps c.args.mode c.args.budgets c.args.design.now c.args.proof.now c.in_ok-bytes.bytes.items (c.in_ok-bytes.ensures.reads files reply_for) c.in_ok-interlocking.interlocking.design.station (ap design_in (sym c.as_slice.ensures.value) ∙ c.in_ok-interlocking.ensures.reads))
 
-pub returns-clause-asks : goal.returns-clause-asks
-returns-clause-asks g c = second_of_two _ _ _ _ _ c.in_ok-bytes.ensures.asked c.searched_in.ensures.asks
+pub returns-clause-uses : goal.returns-clause-uses
+returns-clause-uses g c = record { cause = (search rules); never_falls = (search rules); asks = second_of_two _ _ _ _ _ c.in_ok-bytes.ensures.asked c.searched_in.ensures.uses.asks }
 
 pub returns-in_err-bytes-clause-for_some_files : goal.returns-in_err-bytes-clause-for_some_files
 returns-in_err-bytes-clause-for_some_files g c = unsearched c.from_residual.result c.args.steps c.args.mode c.args.budgets c.args.design.now c.args.proof.now c.in_err-bytes.field-0.0 (search rules) c.in_err-bytes.ensures.for_some_bytes

@@ -20,3 +20,6 @@ returns-clause-stored g c = λ files name reply_for parsed.
 
 pub make_reply-requires : goal.make_reply-requires
 make_reply-requires g c = (c.requires.says.0, c.requires.says.2)
+
+pub returns-in_err-reply-clause-uses : goal.returns-in_err-reply-clause-uses
+returns-in_err-reply-clause-uses g c = record { cause = (search rules); never_falls = (search rules); asks = (search rules) }
