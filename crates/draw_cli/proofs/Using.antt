@@ -26,7 +26,7 @@ drawing_other : (words : List (List ℕ)) (most : ℕ) (a : ReplySeen) → IsDra
 drawing_other words most a drawing is = let kind : Done ≡ Usage = sym drawing.status ∙ is in absurd (cc)
 
 track_other : (text : List ℕ) (a : ReplySeen) → TrackAnswers text a → a.status ≡ Usage → ⊥
-track_other text a = right_other (design_in text) IsTrackDrawing a (design_is_no_usage text) (λ d. drawing_other _ _ a)
+track_other text a = right_other (design_in text) IsTrackDrawing a (design_is_no_usage text) (λ d h. drawing_other _ _ a h.drawing)
 
 plan_other : (d : Station) (text : List ℕ) (a : ReplySeen) → PlanAnswers d text a → a.status ≡ Usage → ⊥
 plan_other d text a = right_other (plan_in d text) (IsRunDrawing d) a (plan_is_no_usage d text) (λ plan. drawing_other _ _ a)

@@ -2,7 +2,7 @@
 -- status 0 and the lines of a drawing that shows each name.
 use Rattle.std.specs.Prelude.{◌≡◌, ℕ, ◌≤◌, List, length, codes, Option, Some, None}
 use Rattle.drawing.specs.declared.shape.Shape.{Shape}
-use Rattle.drawing.specs.Drawing.{IsDrawingOf, words_in}
+use Rattle.drawing.specs.Drawing.{IsDrawingOf, LabelsAreApart, words_in}
 use Rattle.named_files.specs.Replies.{Answers, asks_for}
 use Rattle.rail_base.specs.declared.station.Station.{Station}
 use Rattle.rail_base.specs.declared.plan.Command.{Command}
@@ -12,6 +12,7 @@ use Rattle.cli_shell.specs.Answers.{ReplySeen, one_line, within_limit, design_in
 use Rattle.cli_shell.specs.Shows.{verdict_at_horizon}
 use Rattle.rail_outside.specs.Asks.{Ask}
 use Rattle.run_drawing.specs.Words.{run_size, run_words}
+use Rattle.track_drawing.specs.Edges.{ShowsEdges}
 use Rattle.track_drawing.specs.Words.{track_size, track_words}
 use Rattle.draw_cli.specs.Wanted.{Wanted, track, run}
 
@@ -33,9 +34,12 @@ pub record IsDrawing (words : List (List ℕ)) (most : ℕ) (a : ReplySeen) : Ty
   pub words_are : words_in picture ≡ words
   pub within_limit : length picture ≤ most
 
--- of a track: the names of all sections, nodes and signals
-abbrev pub IsTrackDrawing : Station → ReplySeen → Type 0
-IsTrackDrawing d a = IsDrawing (track_words d) (track_size d) a
+-- of a track: it begins with the edges, each line from node to node in the colour of its section's name, and no flat part of
+-- one over another; its words are the names of all sections, nodes and signals, and no name at a mark meets another
+pub record IsTrackDrawing (d : Station) (a : ReplySeen) : Type 0 where
+  pub drawing : IsDrawing (track_words d) (track_size d) a
+  pub edges : ShowsEdges d drawing.picture
+  pub apart : LabelsAreApart drawing.picture
 
 -- of the run of a plan up to its deciding tick: how it ends, the names of all trains and sections, and all visits made
 abbrev pub IsRunDrawing : Station → List (List Command) → ReplySeen → Type 0

@@ -1,3 +1,4 @@
 pub mod Wording
 pub mod Showing
 pub mod Staying
+pub mod Placing

@@ -3,7 +3,7 @@ use Rattle.std.proofs.Common.{◌≡◌, ℕ, ◌+◌, ◌<◌, ◌≤◌, List,
 use Rattle.std.proofs.lemmas.List.{append-nil, take_more, map-append, take_all}
 use Rattle.std.proofs.lemmas.List.Elements.{filter_map-append}
 use Rattle.drawing.specs.declared.shape.Shape.{Shape}
-use Rattle.drawing.specs.Drawing.{shape_words, words_in}
+use Rattle.drawing.specs.Drawing.{areas_in, shape_area, shape_words, words_in}
 
 -- a shape with words
 pub one_word : (old : List Shape) (shape : Shape) (text : List ℕ) → shape_words shape ≡ Some text → words_in (old ++ shape ∷ []) ≡ words_in old ++ text ∷ []
@@ -22,6 +22,10 @@ module _ {A E : Type 0} where
   pub adds_none : (r : Result A E) (old new : List Shape) (shape : Shape) → shape_words shape ≡ None → OnOk r (new ≡ old ++ shape ∷ []) → OnOk r (words_in new ≡ words_in old)
   adds_none (Ok x) old new shape is h = ap words_in h ∙ no_word old shape is
   adds_none (Err e) old new shape is h = tt
+
+  pub adds_no_area : (r : Result A E) (old new : List Shape) (shape : Shape) → shape_area shape ≡ None → OnOk r (new ≡ old ++ shape ∷ []) → OnOk r (areas_in new ≡ areas_in old)
+  adds_no_area (Ok x) old new shape is h = ap areas_in h ∙ rw (filter_map-append shape_area old (shape ∷ []), is) (append-nil (areas_in old))
+  adds_no_area (Err e) old new shape is h = tt
 
 -- ---- names put one by one
 

@@ -6,6 +6,7 @@ use Rattle.rail_base.specs.Members.{In}
 use Rattle.drawing.specs.declared.shape.Point.{Point}
 use Rattle.drawing.specs.declared.shape.Anchor.{Anchor}
 use Rattle.drawing.specs.declared.shape.Color.{Color}
+use Rattle.drawing.specs.declared.shape.Style.{Style}
 use Rattle.drawing.specs.declared.shape.Shape.{Shape}
 use Rattle.drawing.specs.Parts.{escaped}
 use Rattle.drawing.specs.Lines.{text_line}
@@ -15,8 +16,9 @@ use Rattle.drawing.specs.Drawing.{IsDrawingOf, words_in}
 pub record Shows (lines : List (List ℕ)) (text : List ℕ) : Type 0 where
   pub place : Point
   pub anchor : Anchor
+  pub style : Style
   pub color : Color
-  pub there : In (text_line place anchor color text) lines
+  pub there : In (text_line place anchor style color text) lines
 
 -- each of the words of a picture is the text of a line of its drawing
 abbrev pub WordsAreInLines : Type 0

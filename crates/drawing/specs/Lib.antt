@@ -3,3 +3,4 @@ pub mod Parts
 pub mod Lines
 pub mod Drawing
 pub mod Laws
+pub mod Names

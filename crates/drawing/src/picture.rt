@@ -1,7 +1,7 @@
 //! Shapes that are put into a picture.
 
 ghost use Rattle.std.specs.Prelude.{◌≡◌, ◌+◌, ◌++◌, [], ◌∷◌, length, OnErr, OnOk};
-ghost use Rattle.drawing.specs.Drawing.{words_in};
+ghost use Rattle.drawing.specs.Drawing.{areas_in, words_in};
 
 use crate::shape::{Anchor, Color, Picture, Point, Shape};
 use rail_base::list::{List, Name};
@@ -17,6 +17,7 @@ pub fn put_line(
     ensures shape { OnOk result (picture.new
         ≡ picture.old ++ Shape.Line points.items color width ∷ []) }
     ensures words { OnOk result (words_in picture.new ≡ words_in picture.old) }
+    ensures areas { OnOk result (areas_in picture.new ≡ areas_in picture.old) }
     ensures size { OnOk result (length picture.new ≡ length picture.old + 1) }
     ensures same { OnErr result (picture.new ≡ picture.old) }
 {
@@ -37,6 +38,7 @@ pub fn put_bar(
 ) -> Result<(), AllocError>
     ensures shape { OnOk result (picture.new ≡ picture.old ++ Shape.Bar corner width height color ∷ []) }
     ensures words { OnOk result (words_in picture.new ≡ words_in picture.old) }
+    ensures areas { OnOk result (areas_in picture.new ≡ areas_in picture.old) }
     ensures size { OnOk result (length picture.new ≡ length picture.old + 1) }
     ensures same { OnErr result (picture.new ≡ picture.old) }
 {
@@ -59,6 +61,7 @@ pub fn put_frame(
 ) -> Result<(), AllocError>
     ensures shape { OnOk result (picture.new ≡ picture.old ++ Shape.Frame corner width height color ∷ []) }
     ensures words { OnOk result (words_in picture.new ≡ words_in picture.old) }
+    ensures areas { OnOk result (areas_in picture.new ≡ areas_in picture.old) }
     ensures size { OnOk result (length picture.new ≡ length picture.old + 1) }
     ensures same { OnErr result (picture.new ≡ picture.old) }
 {
@@ -79,6 +82,7 @@ pub fn put_dot(
 ) -> Result<(), AllocError>
     ensures shape { OnOk result (picture.new ≡ picture.old ++ Shape.Dot center radius color ∷ []) }
     ensures words { OnOk result (words_in picture.new ≡ words_in picture.old) }
+    ensures areas { OnOk result (areas_in picture.new ≡ areas_in picture.old) }
     ensures size { OnOk result (length picture.new ≡ length picture.old + 1) }
     ensures same { OnErr result (picture.new ≡ picture.old) }
 {
@@ -99,6 +103,7 @@ pub fn put_words(
 ) -> Result<(), AllocError>
     ensures shape { OnOk result (picture.new ≡ picture.old ++ Shape.Words place anchor color text.items ∷ []) }
     ensures words { OnOk result (words_in picture.new ≡ words_in picture.old ++ text.items ∷ []) }
+    ensures areas { OnOk result (areas_in picture.new ≡ areas_in picture.old) }
     ensures size { OnOk result (length picture.new ≡ length picture.old + 1) }
     ensures same { OnErr result (picture.new ≡ picture.old) }
 {
@@ -120,6 +125,7 @@ pub fn put_note(
 ) -> Result<(), AllocError>
     ensures shape { OnOk result (picture.new ≡ picture.old ++ Shape.Note place anchor color text.items ∷ []) }
     ensures words { OnOk result (words_in picture.new ≡ words_in picture.old) }
+    ensures areas { OnOk result (areas_in picture.new ≡ areas_in picture.old) }
     ensures size { OnOk result (length picture.new ≡ length picture.old + 1) }
     ensures same { OnErr result (picture.new ≡ picture.old) }
 {
@@ -129,4 +135,69 @@ pub fn put_note(
         color,
         text: Name::from_vec(text),
     })
+}
+
+/// Appends a dotted line from one point to the next. `Err` is want of memory, and leaves the picture as it was.
+pub fn put_dotted(
+    picture: &mut Picture,
+    points: Vec<Point>,
+    color: Color,
+    width: u64,
+) -> Result<(), AllocError>
+    ensures shape { OnOk result (picture.new
+        ≡ picture.old ++ Shape.Dotted points.items color width ∷ []) }
+    ensures words { OnOk result (words_in picture.new ≡ words_in picture.old) }
+    ensures areas { OnOk result (areas_in picture.new ≡ areas_in picture.old) }
+    ensures size { OnOk result (length picture.new ≡ length picture.old + 1) }
+    ensures same { OnErr result (picture.new ≡ picture.old) }
+{
+    picture.push(Shape::Dotted {
+        points: List::from_vec(points),
+        color,
+        width,
+    })
+}
+
+/// Appends a white disc with a ring around it. `Err` is want of memory, and leaves the picture as it was.
+pub fn put_ring(
+    picture: &mut Picture,
+    center: Point,
+    radius: u64,
+    color: Color,
+) -> Result<(), AllocError>
+    ensures shape { OnOk result (picture.new ≡ picture.old ++ Shape.Ring center radius color ∷ []) }
+    ensures words { OnOk result (words_in picture.new ≡ words_in picture.old) }
+    ensures areas { OnOk result (areas_in picture.new ≡ areas_in picture.old) }
+    ensures size { OnOk result (length picture.new ≡ length picture.old + 1) }
+    ensures same { OnErr result (picture.new ≡ picture.old) }
+{
+    picture.push(Shape::Ring {
+        center,
+        radius,
+        color,
+    })
+}
+
+/// Begins what has a title. `Err` is want of memory, and leaves the picture as it was.
+pub fn put_title(picture: &mut Picture, title: Vec<u8>) -> Result<(), AllocError>
+    ensures shape { OnOk result (picture.new ≡ picture.old ++ Shape.Titled title.items ∷ []) }
+    ensures words { OnOk result (words_in picture.new ≡ words_in picture.old) }
+    ensures areas { OnOk result (areas_in picture.new ≡ areas_in picture.old) }
+    ensures size { OnOk result (length picture.new ≡ length picture.old + 1) }
+    ensures same { OnErr result (picture.new ≡ picture.old) }
+{
+    picture.push(Shape::Titled {
+        title: Name::from_vec(title),
+    })
+}
+
+/// Ends what has a title. `Err` is want of memory, and leaves the picture as it was.
+pub fn put_title_end(picture: &mut Picture) -> Result<(), AllocError>
+    ensures shape { OnOk result (picture.new ≡ picture.old ++ Shape.TitledEnd ∷ []) }
+    ensures words { OnOk result (words_in picture.new ≡ words_in picture.old) }
+    ensures areas { OnOk result (areas_in picture.new ≡ areas_in picture.old) }
+    ensures size { OnOk result (length picture.new ≡ length picture.old + 1) }
+    ensures same { OnErr result (picture.new ≡ picture.old) }
+{
+    picture.push(Shape::TitledEnd)
 }

@@ -27,6 +27,25 @@ pub enum Color {
     Green,
     /// By its hue, in degrees.
     Hue(u64),
+    /// One of 24 that can be read on white.
+    Named(u64),
+}
+
+/// How a text is written.
+#[derive(Clone, Copy, Debug, PartialEq, Eq)]
+pub enum Style {
+    Plain,
+    Bold,
+    Italic,
+}
+
+/// An area of a picture, in px.
+#[derive(Clone, Copy, Debug, PartialEq, Eq)]
+pub struct Area {
+    pub left: u64,
+    pub top: u64,
+    pub right: u64,
+    pub bottom: u64,
 }
 
 /// The colour of a number: neighbours differ much in hue.
@@ -70,6 +89,31 @@ pub enum Shape {
         color: Color,
         text: Name,
     },
+    /// A name at its mark. Its place is where it begins.
+    Label {
+        place: Point,
+        style: Style,
+        color: Color,
+        text: Name,
+    },
+    /// A dotted line from one point to the next.
+    Dotted {
+        points: List<Point>,
+        color: Color,
+        width: u64,
+    },
+    /// A white disc with a ring around it.
+    Ring {
+        center: Point,
+        radius: u64,
+        color: Color,
+    },
+    /// What follows, up to the next end, has a title.
+    Titled {
+        title: Name,
+    },
+    /// The end of what has a title.
+    TitledEnd,
     /// A text beside the others, as the number at an axis.
     Note {
         place: Point,

@@ -79,6 +79,14 @@ fn shape_end(shape: &Shape) -> Point {
             x: center.x.saturating_add(*radius),
             y: center.y.saturating_add(*radius),
         },
+        Shape::Ring { center, radius, .. } => Point {
+            x: center.x.saturating_add(*radius),
+            y: center.y.saturating_add(*radius),
+        },
+        Shape::Dotted { points, .. } => farthest_point(points.as_slice()),
+        Shape::Label { place, text, .. } => text_end(*place, Anchor::Start, text.as_bytes()),
+        Shape::Titled { .. } => Point { x: 0, y: 0 },
+        Shape::TitledEnd => Point { x: 0, y: 0 },
         Shape::Words {
             place,
             anchor,

@@ -53,7 +53,7 @@ impl Scale {
             mm_per_px: 20_000,
             most: 60,
         };
-        let levels = drawn_levels(alloc, layout.levels.as_slice(), how)?;
+        let levels = drawn_levels(alloc, layout.columns.as_slice(), how)?;
         let mut scale = Scale {
             ticks,
             tick_ms: u64::from(station.tick_ms),
@@ -165,8 +165,8 @@ impl Scale {
 
     /// The level of a node of an index, counted from 0.
     fn level(&self, index: usize) -> usize {
-        match self.layout.nodes.get(index) {
-            Some(place) => place.level,
+        match self.layout.nodes.as_slice().get(index) {
+            Some(place) => place.column,
             None => 0,
         }
     }

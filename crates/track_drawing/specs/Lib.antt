@@ -1,2 +1,3 @@
 -- What a picture of a track says.
 pub mod Words
+pub mod Edges

@@ -16,6 +16,6 @@ signal_name signal = signal.name
 abbrev pub track_words : Station → List (List ℕ)
 track_words d = d.sections ++ map node_name d.nodes ++ map signal_name d.signals
 
--- a shape for each edge, two for each node and each signal, and one for each section
+-- at most three shapes for each edge, four for each section, six for each node and each signal, and three headings
 abbrev pub track_size : Station → ℕ
-track_size d = length d.edges + length d.sections + 2 * length d.nodes + 2 * length d.signals
+track_size d = 3 * length d.edges + 4 * length d.sections + 6 * length d.nodes + 6 * length d.signals + 3

@@ -1,73 +1,67 @@
-//! Edges, and the sections that they belong to.
+//! Edges, in the colours of their sections.
 
-ghost use Rattle.std.specs.Prelude.{◌≡◌, ◌+◌, ◌++◌, length, OnOk};
-ghost use Rattle.drawing.specs.Drawing.{words_in};
+ghost use Rattle.std.specs.Prelude.{◌≡◌, ◌+◌, ◌*◌, ◌++◌, [], ◌∷◌, length, map, OnOk};
+ghost use Rattle.drawing.specs.Drawing.{areas_in, words_in};
+ghost use Rattle.drawing.specs.Names.{color_of_name};
+ghost use Rattle.rail_base.specs.Numbering.{entry};
+ghost use Rattle.track_drawing.specs.Edges.{edge_shape, lines_in};
 
-use crate::grid::Grid;
-use drawing::{Anchor, Color, Picture, Point, numbered_color, put_line, put_words};
+use crate::titles::edge_title;
+use drawing::{Color, Picture, color_of_name, put_line, put_title, put_title_end};
 use rail_base::list::Name;
-use rail_base::station::Edge;
+use rail_base::station::{Edge, SectionNo};
 use std::alloc::{AllocError, Global};
+use track_layout::{EdgePlace, points_of};
 
-/// How far below an edge the name of its section stands, in px.
-const BELOW: u64 = 28;
-
-/// Appends a line for each edge, in the colour of its section.
+/// Appends the line of each edge, in the colour of its section, with a title.
 pub(crate) fn put_edges(
     alloc: Global,
     picture: &mut Picture,
-    grid: &Grid,
-    edges: &[Edge],
-) -> Result<(), AllocError>
-    ensures words { OnOk result (words_in picture.new ≡ words_in picture.old) }
-    ensures size { OnOk result (length picture.new ≡ length picture.old + length edges.now) }
-{
-    for (index, edge) in edges.iter().enumerate() {
-        let points = grid.train_path(edge, index).points(alloc)?;
-        put_line(
-            picture,
-            points,
-            numbered_color(u64::from(edge.section.0)),
-            4,
-        )?;
-    }
-    Ok(())
-}
-
-/// Appends the name of each section, below the middle of its first edge.
-pub(crate) fn put_section_names(
-    alloc: Global,
-    picture: &mut Picture,
-    grid: &Grid,
+    lines: &[EdgePlace],
     edges: &[Edge],
     sections: &[Name],
 ) -> Result<(), AllocError>
-    ensures words { OnOk result (words_in picture.new ≡ words_in picture.old ++ sections.now) }
-    ensures size { OnOk result (length picture.new ≡ length picture.old + length sections.now) }
+    ensures lines { OnOk result (lines_in picture.new ≡ lines_in picture.old ++ map (edge_shape sections.now) lines.now) }
+    ensures words { OnOk result (words_in picture.new ≡ words_in picture.old) }
+    ensures areas { OnOk result (areas_in picture.new ≡ areas_in picture.old) }
+    ensures size { OnOk result (length picture.new ≡ length picture.old + 3 * length lines.now) }
 {
-    for (index, name) in sections.iter().enumerate() {
-        let middle = middle_of(grid, edges, index);
-        let place = Point {
-            x: middle.x,
-            y: middle.y.saturating_add(BELOW),
-        };
-        let text = Vec::from_slice(alloc, name.as_bytes())?;
-        put_words(picture, place, Anchor::Middle, section_color(index), text)?;
+    for (index, line) in lines.iter().enumerate() {
+        put_edge(alloc, picture, line, edges.get(index), sections)?;
     }
     Ok(())
 }
 
-/// The middle of the first edge of a section, by the section's index.
-fn middle_of(grid: &Grid, edges: &[Edge], section: usize) -> Point {
-    for (index, edge) in edges.iter().enumerate() {
-        if edge.section.0 as usize == section.saturating_add(1) {
-            return grid.train_path(edge, index).middle();
-        }
+/// The colour of a section, which depends on its name alone.
+fn section_color(sections: &[Name], section: SectionNo) -> Color
+    ensures { result ≡ color_of_name (entry [] sections.now section.0) }
+{
+    if section.0 == 0 {
+        return color_of_name(b"");
     }
-    Point { x: 0, y: 0 }
+    match sections.get(section.0 as usize - 1) {
+        Some(name) => color_of_name(name.as_bytes()),
+        None => color_of_name(b""),
+    }
 }
 
-/// The colour of a section of an index, counted from 0.
-fn section_color(index: usize) -> Color {
-    numbered_color((index as u64).saturating_add(1))
+/// Appends the line of an edge, with a title.
+fn put_edge(
+    alloc: Global,
+    picture: &mut Picture,
+    line: &EdgePlace,
+    edge: Option<&Edge>,
+    sections: &[Name],
+) -> Result<(), AllocError>
+    ensures lines { OnOk result (lines_in picture.new ≡ lines_in picture.old ++ edge_shape sections.now line.now ∷ []) }
+    ensures words { OnOk result (words_in picture.new ≡ words_in picture.old) }
+    ensures areas { OnOk result (areas_in picture.new ≡ areas_in picture.old) }
+    ensures size { OnOk result (length picture.new ≡ length picture.old + 3) }
+{
+    let title = edge_title(alloc, edge, sections)?;
+    let points = points_of(alloc, line)?;
+    let color = section_color(sections, line.section);
+    put_title(picture, title)?;
+    put_line(picture, points, color, 3)?;
+    put_title_end(picture)
 }

@@ -1,121 +1,106 @@
-//! Signals. A signal for trains that go to the right stands below the track, and one for the others above it.
+//! Marks of signals: foot, mast and lamp, on the right of who drives; below the track for trains to the right.
 
-ghost use Rattle.std.specs.Prelude.{◌≡◌, ◌+◌, [], ◌∷◌, ◌++◌, length, map, OnOk};
-ghost use Rattle.drawing.specs.Drawing.{words_in};
-ghost use Rattle.track_drawing.specs.Words.{signal_name};
+ghost use Rattle.std.specs.Prelude.{◌≡◌, ◌≤◌, ◌+◌, ◌*◌, length, OnOk};
+ghost use Rattle.drawing.specs.Drawing.{areas_in, words_in};
 
-use crate::grid::{BESIDE, Grid};
-use drawing::{Anchor, Color, Picture, Point, put_line, put_words};
-use rail_base::station::Signal;
+use crate::scene::{Scene, beside, index_of};
+use crate::titles::signal_title;
+use drawing::{Color, Picture, Point, put_dot, put_dotted, put_line, put_title, put_title_end};
+use rail_base::station::{Overlap, Station};
 use std::alloc::{AllocError, Global};
 
-/// Appends an arrow for each signal, in its direction.
+/// Appends the mark of each signal with a title, and of its overlap, where it has one.
 pub(crate) fn put_signals(
     alloc: Global,
     picture: &mut Picture,
-    grid: &Grid,
-    signals: &[Signal],
+    scene: &Scene,
+    station: &Station,
 ) -> Result<(), AllocError>
     ensures words { OnOk result (words_in picture.new ≡ words_in picture.old) }
-    ensures size { OnOk result (length picture.new ≡ length picture.old + length signals.now) }
+    ensures areas { OnOk result (areas_in picture.new ≡ areas_in picture.old) }
+    ensures size { OnOk result (length picture.new ≤ length picture.old + 5 * length station.now.signals) }
 {
-    for signal in signals {
-        let point = grid.point_of(signal.node);
-        let points = if grid.is_right(signal.node, signal.toward) {
-            right_arrow(alloc, point)?
-        } else {
-            left_arrow(alloc, point)?
-        };
-        put_line(picture, points, Color::Red, 2)?;
+    let signals = station.signals.as_slice();
+    for (index, signal) in signals.iter().enumerate() {
+        let is_right = scene.is_right(signal.node, signal.toward);
+        let overlap = overlap_of(station.overlaps.as_slice(), index);
+        let sections = station.sections.as_slice();
+        let title = signal_title(alloc, signal, is_right, overlap, sections)?;
+        let point = scene.point(index_of(signal.node));
+        put_title(picture, title)?;
+        put_mark(alloc, picture, point, is_right, overlap.is_some())?;
+        put_title_end(picture)?;
     }
     Ok(())
 }
 
-/// Appends the name of each signal.
-pub(crate) fn put_signal_names(
-    alloc: Global,
-    picture: &mut Picture,
-    grid: &Grid,
-    signals: &[Signal],
-) -> Result<(), AllocError>
-    ensures words { OnOk result (words_in picture.new ≡ words_in picture.old ++ map signal_name signals.now) }
-    ensures size { OnOk result (length picture.new ≡ length picture.old + length signals.now) }
-{
-    for signal in signals {
-        put_signal_name(
-            alloc,
-            picture,
-            grid.point_of(signal.node),
-            grid.is_right(signal.node, signal.toward),
-            signal.name.as_bytes(),
-        )?;
+/// The overlap of a signal, by its index, if it has one.
+fn overlap_of(overlaps: &[Overlap], signal: usize) -> Option<&Overlap> {
+    for overlap in overlaps {
+        if overlap.signal.0 as usize == signal.saturating_add(1) {
+            return Some(overlap);
+        }
     }
-    Ok(())
+    None
 }
 
-/// The corners of an arrow to the right, below a point. The error is want of memory.
-fn right_arrow(alloc: Global, point: Point) -> Result<Vec<Point>, AllocError> {
-    let near = point.x.saturating_add(5);
-    let far = point.x.saturating_add(13);
-    let mut points = Vec::new(alloc);
-    points.push(Point {
-        x: near,
-        y: point.y.saturating_add(7),
-    })?;
-    points.push(Point {
-        x: far,
-        y: point.y.saturating_add(11),
-    })?;
-    points.push(Point {
-        x: near,
-        y: point.y.saturating_add(15),
-    })?;
-    Ok(points)
-}
-
-/// The corners of an arrow to the left, above a point. The error is want of memory.
-fn left_arrow(alloc: Global, point: Point) -> Result<Vec<Point>, AllocError> {
-    let near = point.x.saturating_sub(5);
-    let far = point.x.saturating_sub(13);
-    let mut points = Vec::new(alloc);
-    points.push(Point {
-        x: near,
-        y: point.y.saturating_sub(7),
-    })?;
-    points.push(Point {
-        x: far,
-        y: point.y.saturating_sub(11),
-    })?;
-    points.push(Point {
-        x: near,
-        y: point.y.saturating_sub(15),
-    })?;
-    Ok(points)
-}
-
-/// Appends the name of a signal, beside its arrow.
-fn put_signal_name(
+/// Appends the mark of a signal, and a dotted line along the track behind it where it has an overlap.
+fn put_mark(
     alloc: Global,
     picture: &mut Picture,
     point: Point,
-    to_the_right: bool,
-    name: &[u8],
+    is_right: bool,
+    has_overlap: bool,
 ) -> Result<(), AllocError>
-    ensures words { OnOk result (words_in picture.new ≡ words_in picture.old ++ name.now ∷ []) }
-    ensures size { OnOk result (length picture.new ≡ length picture.old + 1) }
+    ensures words { OnOk result (words_in picture.new ≡ words_in picture.old) }
+    ensures areas { OnOk result (areas_in picture.new ≡ areas_in picture.old) }
+    ensures size { OnOk result (length picture.new ≤ length picture.old + 3) }
 {
-    let text = Vec::from_slice(alloc, name)?;
-    if to_the_right {
-        let place = Point {
-            x: point.x.saturating_add(BESIDE),
-            y: point.y.saturating_add(15),
-        };
-        put_words(picture, place, Anchor::Start, Color::Red, text)
-    } else {
-        let place = Point {
-            x: point.x.saturating_sub(BESIDE),
-            y: point.y.saturating_sub(7),
-        };
-        put_words(picture, place, Anchor::End, Color::Red, text)
+    let mast = mast_of(alloc, point, is_right)?;
+    let lamp = Point {
+        x: beside(point.x, is_right, 9),
+        y: beside(point.y, is_right, 9),
+    };
+    put_line(picture, mast, Color::Red, 2)?;
+    put_dot(picture, lamp, 3, Color::Red)?;
+    if has_overlap {
+        let points = overlap_line(alloc, point, is_right)?;
+        put_dotted(picture, points, Color::Red, 2)?;
     }
+    Ok(())
+}
+
+/// The foot and the mast of a signal.
+fn mast_of(alloc: Global, point: Point, is_right: bool) -> Result<Vec<Point>, AllocError> {
+    let y = beside(point.y, is_right, 9);
+    let mut points = Vec::new(alloc);
+    points.push(Point {
+        x: point.x,
+        y: y.saturating_sub(4),
+    })?;
+    points.push(Point {
+        x: point.x,
+        y: y.saturating_add(4),
+    })?;
+    points.push(Point { x: point.x, y })?;
+    points.push(Point {
+        x: beside(point.x, is_right, 6),
+        y,
+    })?;
+    Ok(points)
+}
+
+/// The line of an overlap, along the track behind its signal.
+fn overlap_line(alloc: Global, point: Point, is_right: bool) -> Result<Vec<Point>, AllocError> {
+    let y = beside(point.y, is_right, 4);
+    let mut points = Vec::new(alloc);
+    points.push(Point {
+        x: beside(point.x, is_right, 2),
+        y,
+    })?;
+    points.push(Point {
+        x: beside(point.x, is_right, 26),
+        y,
+    })?;
+    Ok(points)
 }

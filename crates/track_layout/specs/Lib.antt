@@ -1,0 +1,2 @@
+-- What a layout says of the lines that it draws.
+pub mod Lines

@@ -1,162 +1,184 @@
 //! The layout of a design.
 
-use crate::lanes::{Lanes, entry_at};
-use crate::levels::{level_at, levels_of, place_in};
-use crate::reach::{Reach, reach_all};
+ghost use Rattle.std.specs.Prelude.{◌≡◌, length, IfOk};
+ghost use Rattle.track_layout.specs.Lines.{FlatsAreApart, JoinTheirNodes};
+
+use crate::ends::{entry_at, length_at, number_at, other_side, set_at};
+use crate::graph::{Graph, graph_of};
+use crate::lines::lines_of;
+use crate::place::{EdgePlace, Layout, NodePlace, Track};
+use crate::places::{columns_of, places_of};
+use crate::rows::rows_of;
+use crate::sheet::{Plan, Sheet};
+use crate::spread::spread_of;
+use crate::tracks::{Course, tracks_of};
+use crate::widths::signal_room;
+use drawing::Point;
+use rail_base::list::List;
 use rail_base::station::{Side, Station};
 use std::alloc::{AllocError, Global};
 
-/// Where a node is drawn.
-#[derive(Clone, Copy, Debug, PartialEq, Eq)]
-pub struct NodePlace {
-    /// Its level, counted from 0 at the left.
-    pub level: usize,
-    /// Its row, counted from 0 at the top.
-    pub row: usize,
-    /// The side by which one leaves it to the right.
-    pub right: Side,
-}
-
-/// Where an edge is drawn.
-#[derive(Clone, Copy, Debug, PartialEq, Eq)]
-pub struct EdgePlace {
-    /// The row in which it runs, counted from 0 at the top; none where it goes straight from node to node.
-    pub row: Option<usize>,
-}
-
-/// Where the track of a design is drawn.
-#[derive(Drop)]
-pub struct Layout {
-    /// The place of each level along the track, in mm, in order.
-    pub levels: Vec<u64>,
-    /// In file order.
-    pub nodes: Vec<NodePlace>,
-    /// In file order.
-    pub edges: Vec<EdgePlace>,
-}
-
-/// Where the track of a station is drawn. The error is want of memory.
-pub fn layout_of(alloc: Global, station: &Station) -> Result<Layout, AllocError> {
-    let reached = reach_all(alloc, station)?;
-    let levels = levels_of(alloc, reached.as_slice())?;
-    let of_nodes = node_levels(alloc, reached.as_slice(), levels.as_slice())?;
-    let lanes = lanes_of(alloc, station, of_nodes.as_slice())?;
-    let used = lanes_used(alloc, &lanes)?;
-    let nodes = node_places(
-        alloc,
-        reached.as_slice(),
-        levels.as_slice(),
-        lanes.nodes.as_slice(),
-        used.as_slice(),
-    )?;
-    let edges = edge_places(alloc, lanes.edges.as_slice(), used.as_slice())?;
+/// Where the track of a station is drawn. The line of each edge joins its two nodes, and no two flat parts of lines lie
+/// over one another. The error is want of memory.
+pub fn layout_of(alloc: Global, station: &Station) -> Result<Layout, AllocError>
+    ensures joined { IfOk result (λ layout. JoinTheirNodes layout.points station.now.edges layout.edges) }
+    ensures apart { IfOk result (λ layout. FlatsAreApart layout.edges) }
+{
+    let graph = graph_of(alloc, station)?;
+    let mut tracks = tracks_of(alloc, &graph, station)?;
+    let places = places_of(alloc, station.nodes.as_slice(), &graph, &tracks)?;
+    let columns = columns_of(alloc, &graph, places.as_slice())?;
+    let rows = rows_of(alloc, &graph, &mut tracks, &columns)?;
+    let room = signal_room(alloc, station, &graph)?;
+    let plan = Plan {
+        station,
+        graph: &graph,
+        tracks: &tracks,
+        columns: &columns,
+        rows: &rows,
+        room: &room,
+    };
+    let sheet = spread_of(alloc, &plan)?;
+    let points = points_of(alloc, &plan, &sheet)?;
+    let edges = station.edges.as_slice();
+    let lines = lines_of(alloc, &plan, &sheet, edges, points.as_slice())?;
+    let size = size_of(points.as_slice(), lines.as_slice());
     Ok(Layout {
-        levels,
-        nodes,
-        edges,
+        points: List::from_vec(points),
+        nodes: List::from_vec(node_places(alloc, &plan, places.as_slice())?),
+        edges: lines,
+        tracks: List::from_vec(tracks_in(alloc, &plan)?),
+        columns: List::from_vec(columns.places),
+        pieces: graph.sides.pieces,
+        size,
     })
 }
 
-/// The level of each node.
-fn node_levels(
+/// Where each node is drawn. The error is want of memory.
+fn points_of(alloc: Global, plan: &Plan<'_>, sheet: &Sheet) -> Result<Vec<Point>, AllocError> {
+    let many = plan.station.nodes.len();
+    let mut points = Vec::with_capacity(alloc, many)?;
+    for node in 0..many {
+        points.push(sheet.point(plan, node))?;
+    }
+    Ok(points)
+}
+
+/// Where each node lies. The error is want of memory.
+fn node_places(
     alloc: Global,
-    reached: &[Option<Reach>],
-    levels: &[u64],
-) -> Result<Vec<usize>, AllocError> {
-    let mut of_nodes = Vec::with_capacity(alloc, reached.len())?;
-    for reach in reached {
-        of_nodes.push(level_at(levels, place_in(reach)))?;
+    plan: &Plan<'_>,
+    places: &[u64],
+) -> Result<Vec<NodePlace>, AllocError> {
+    let lanes = lanes_of(alloc, plan)?;
+    let many = plan.station.nodes.len();
+    let mut nodes = Vec::with_capacity(alloc, many)?;
+    for node in 0..many {
+        let track = plan.tracks.of_node(node);
+        let row = row_of(plan, track);
+        nodes.push(NodePlace {
+            piece: plan.graph.piece_of(node),
+            place_mm: length_at(places, node),
+            column: plan.column(node),
+            row,
+            lane: number_at(lanes.as_slice(), row),
+            track,
+            right: right_of(plan.graph, node),
+        })?;
     }
-    Ok(of_nodes)
+    Ok(nodes)
 }
 
-/// The nodes with their levels, from the left to the right.
-fn in_order(alloc: Global, levels: &[usize]) -> Result<Vec<(usize, usize)>, AllocError> {
-    let mut order = Vec::with_capacity(alloc, levels.len())?;
-    for (node, level) in levels.iter().enumerate() {
-        order.push((*level, node))?;
+/// The row of a track, or of the one on which it begins.
+fn row_of(plan: &Plan<'_>, track: usize) -> usize {
+    let mut track = track;
+    for _ in 0..plan.tracks.courses.len() {
+        if let Some(row) = entry_at(plan.rows.rows.as_slice(), track) {
+            return row;
+        }
+        track = match plan.tracks.course(track) {
+            Some(course) => course.begins_on.unwrap_or(0),
+            None => 0,
+        };
     }
-    order.sort()?;
-    Ok(order)
+    0
 }
 
-/// The lanes of all nodes and edges.
-fn lanes_of(alloc: Global, station: &Station, levels: &[usize]) -> Result<Lanes, AllocError> {
-    let edges = station.edges.as_slice();
-    let order = in_order(alloc, levels)?;
-    let mut lanes = Lanes::new(alloc, levels.len(), edges.len())?;
-    for (level, node) in order.as_slice() {
-        lanes.lay_all_from(edges, levels, *node, *level);
+/// How many rows of its piece lie above each row. The error is want of memory.
+fn lanes_of(alloc: Global, plan: &Plan<'_>) -> Result<Vec<usize>, AllocError> {
+    let mut pieces = vec![in alloc; 0; plan.rows.many]?;
+    for (track, course) in plan.tracks.courses.as_slice().iter().enumerate() {
+        if let Some(row) = entry_at(plan.rows.rows.as_slice(), track) {
+            set_at(pieces.as_mut_slice(), row, plan.graph.piece_of(course.left));
+        }
+    }
+    let mut lanes = Vec::with_capacity(alloc, pieces.len())?;
+    let mut lane: usize = 0;
+    let mut before = None;
+    for piece in pieces.as_slice() {
+        lane = if before == Some(*piece) {
+            lane.saturating_add(1)
+        } else {
+            0
+        };
+        before = Some(*piece);
+        lanes.push(lane)?;
     }
     Ok(lanes)
 }
 
-/// The lanes that are given out, each once, in order.
-fn lanes_used(alloc: Global, lanes: &Lanes) -> Result<Vec<usize>, AllocError> {
-    let mut used = Vec::new(alloc);
-    for lane in lanes.nodes.as_slice() {
-        if let Some(lane) = lane {
-            used.push(*lane)?;
-        }
-    }
-    for lane in lanes.edges.as_slice() {
-        if let Some(lane) = lane {
-            used.push(*lane)?;
-        }
-    }
-    used.sort()?;
-    used.dedup();
-    Ok(used)
-}
-
-/// The number of a lane among those that are given out, counted from 0.
-fn row_of(used: &[usize], lane: usize) -> usize {
-    match used.binary_search(&lane) {
-        Ok(row) => row,
-        Err(row) => row,
-    }
-}
-
-/// Where each node is drawn.
-fn node_places(
-    alloc: Global,
-    reached: &[Option<Reach>],
-    levels: &[u64],
-    lanes: &[Option<usize>],
-    used: &[usize],
-) -> Result<Vec<NodePlace>, AllocError> {
-    let mut places = Vec::with_capacity(alloc, reached.len())?;
-    for (node, reach) in reached.iter().enumerate() {
-        places.push(NodePlace {
-            level: level_at(levels, place_in(reach)),
-            row: row_of(used, entry_at(lanes, node).unwrap_or(0)),
-            right: right_of(reach),
-        })?;
-    }
-    Ok(places)
-}
-
 /// The side by which one leaves a node to the right.
-fn right_of(reach: &Option<Reach>) -> Side {
-    match reach {
-        Some(reach) => reach.right,
+fn right_of(graph: &Graph, node: usize) -> Side {
+    match graph.sides.left_of(node) {
+        Some(side) => other_side(side),
         None => Side::B,
     }
 }
 
-/// Where each edge is drawn.
-fn edge_places(
-    alloc: Global,
-    lanes: &[Option<usize>],
-    used: &[usize],
-) -> Result<Vec<EdgePlace>, AllocError> {
-    let mut places = Vec::with_capacity(alloc, lanes.len())?;
-    for lane in lanes {
-        let row = match lane {
-            Some(lane) => Some(row_of(used, *lane)),
-            None => None,
-        };
-        places.push(EdgePlace { row })?;
+/// The tracks as they are drawn. The error is want of memory.
+fn tracks_in(alloc: Global, plan: &Plan<'_>) -> Result<Vec<Track>, AllocError> {
+    let mut tracks = Vec::with_capacity(alloc, plan.tracks.courses.len())?;
+    for (track, course) in plan.tracks.courses.as_slice().iter().enumerate() {
+        tracks.push(Track {
+            nodes: List::from_vec(nodes_of(alloc, plan, *course)?),
+            row: entry_at(plan.rows.rows.as_slice(), track),
+            begins_on: course.begins_on,
+            ends_on: course.ends_on,
+        })?;
     }
-    Ok(places)
+    Ok(tracks)
+}
+
+/// The nodes of a track, from the left to the right. The error is want of memory.
+fn nodes_of(alloc: Global, plan: &Plan<'_>, course: Course) -> Result<Vec<usize>, AllocError> {
+    let mut nodes = Vec::new(alloc);
+    nodes.push(course.left)?;
+    for edge in plan.tracks.edges(alloc, course)?.as_slice() {
+        if let Some(arc) = plan.graph.arc(*edge) {
+            nodes.push(arc.right)?;
+        }
+    }
+    Ok(nodes)
+}
+
+/// How far points and lines lie to the right and below.
+fn size_of(points: &[Point], lines: &[EdgePlace]) -> Point {
+    let mut size = Point { x: 0, y: 0 };
+    for point in points {
+        size = farther(size, *point);
+    }
+    for line in lines {
+        for point in line.middle.as_slice() {
+            size = farther(size, *point);
+        }
+    }
+    size
+}
+
+/// The farther of two places, in each direction.
+fn farther(one: Point, other: Point) -> Point {
+    Point {
+        x: one.x.max(other.x),
+        y: one.y.max(other.y),
+    }
 }

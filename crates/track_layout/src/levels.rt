@@ -1,6 +1,5 @@
-//! Places in order, and where they are drawn.
+//! Where places in order are drawn.
 
-use crate::reach::Reach;
 use std::alloc::{AllocError, Global};
 
 /// How a length of track becomes a length in a drawing.
@@ -29,33 +28,6 @@ pub fn drawn_levels(alloc: Global, levels: &[u64], how: Spread) -> Result<Vec<u6
         before = Some(*level);
     }
     Ok(drawn)
-}
-
-/// The place of a node, in mm.
-pub(crate) fn place_in(reach: &Option<Reach>) -> u64 {
-    match reach {
-        Some(reach) => reach.place,
-        None => 0,
-    }
-}
-
-/// The places at which nodes lie, each once, in order. The error is want of memory.
-pub(crate) fn levels_of(alloc: Global, reached: &[Option<Reach>]) -> Result<Vec<u64>, AllocError> {
-    let mut levels = Vec::with_capacity(alloc, reached.len())?;
-    for reach in reached {
-        levels.push(place_in(reach))?;
-    }
-    levels.sort()?;
-    levels.dedup();
-    Ok(levels)
-}
-
-/// The number of a place among the levels, counted from 0.
-pub(crate) fn level_at(levels: &[u64], place: u64) -> usize {
-    match levels.binary_search(&place) {
-        Ok(level) => level,
-        Err(level) => level,
-    }
 }
 
 /// How far a level is drawn from the one before it, in px.

@@ -1,0 +1,10 @@
+use Rattle.std.proofs.Common.{refl}
+use Rattle.drawing.specs.declared.shape.Shape.TheVariants.{Ring}
+use Rattle.drawing.proofs.Wording.{adds_no_area, adds_none}
+use Rattle.drawing.proofs.picture.put_ring.Goals as goal
+
+pub returns-clause-words : goal.returns-clause-words
+returns-clause-words c = adds_none c.push.result c.args.picture.now c.push.new.self (Ring c.args.center c.args.radius c.args.color) refl c.push.ensures.ok
+
+pub returns-clause-areas : goal.returns-clause-areas
+returns-clause-areas c = adds_no_area c.push.result c.args.picture.now c.push.new.self (Ring c.args.center c.args.radius c.args.color) refl c.push.ensures.ok

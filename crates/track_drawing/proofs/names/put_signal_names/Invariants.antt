@@ -1,0 +1,11 @@
+use Rattle.std.proofs.Common.{◌≡◌, ◌+◌, ◌++◌, take, map, length}
+use Rattle.drawing.specs.Drawing.{LabelsAreApart, words_in}
+use Rattle.track_drawing.specs.Words.{signal_name}
+use Rattle.track_drawing.proofs.names.put_signal_names.Given as goal
+
+abbrev pub invariant-loop-index : goal.invariant-loop-index
+invariant-loop-index l = record {
+  words : words_in l.picture ≡ words_in l.initial.picture ++ map signal_name (take l.index l.signals);
+  apart : LabelsAreApart l.initial.picture → LabelsAreApart l.picture;
+  size : length l.picture ≡ length l.initial.picture + l.index;
+}
